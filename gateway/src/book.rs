@@ -9,9 +9,8 @@ use std::time::Duration;
 use uuid::Uuid;
 
 use crate::errors::SqsError;
-use crate::journal::Need;
 use crate::queues::ask::{Ask, StoreName};
-use crate::queues::book::{Entry, ProgramEntry, Removal, Size};
+use crate::queues::book::{entries_of_facts, Entry, ProgramEntry, Removal};
 use crate::queues::Queue;
 use crate::store::{Operation, Store};
 
@@ -21,21 +20,18 @@ const PAUSE: Duration = Duration::from_millis(250);
 /// What couldn't be done is tried again after this, and later each time up to [`LONGEST_REST`].
 const LONGEST_REST: Duration = Duration::from_secs(10);
 
-/// A book isn't begun anew for less than so many bytes, or so many while memory or space of the journal is wanted back.
+/// A book isn't begun anew for less than so many bytes, or so many while memory is wanted back.
 const WORTH_IT: u64 = 1 << 20;
 const WORTH_IT_IF_FULL: u64 = 64 << 10;
-
-/// On a full disk that has room for it, it is begun anew also for this part of what counts, and as many bytes as those.
-const PART_WORTH_IT_IF_FULL: u64 = 8;
 
 /// So many queues are said once more at once.
 const AT_ONCE: usize = 64;
 
 /// Has a book for each program, with all that counts, before anybody is served, and removes what no queue goes by. What can't
-/// be done now, since the disk is full, is done later.
+/// be done now, since a journal is full, is done later.
 pub async fn prepare(store: &Store) {
     for place in store.places() {
-        match bring_up_to_date(store, place).await {
+        match bring_up_to_date(store, place, false).await {
             Err(error) if error != SqsError::store_is_gone() => {
                 tracing::warn!("the book is brought up to date later: {error}");
             }
@@ -60,13 +56,13 @@ async fn keep_one(store: Store, place: usize) {
     loop {
         tokio::time::sleep(rest).await;
         let bytes = store.queues().books().bytes_of_current(place);
-        let has_changed = bytes != looked || is_space_wanted(&store);
+        let has_changed = bytes != looked || store.is_memory_full();
         looked = bytes;
         is_due |= has_changed && is_worth_beginning_anew(&store, place);
         if !is_due && store.queues().left_over().of(place).is_empty() {
             continue;
         }
-        match bring_up_to_date(&store, place).await {
+        match bring_up_to_date(&store, place, false).await {
             Ok(()) => (is_due, rest) = (false, PAUSE),
             Err(error) => {
                 rest = LONGEST_REST.min(2 * rest);
@@ -76,32 +72,29 @@ async fn keep_one(store: Store, place: usize) {
     }
 }
 
-fn is_space_wanted(store: &Store) -> bool {
-    store.wants_space() || store.is_memory_full()
-}
-
-/// Whether old entries take more than those that count. On a full disk some of them are enough, if a fresh book has room.
+/// Whether old entries take more than those that count.
 fn is_worth_beginning_anew(store: &Store, place: usize) -> bool {
     let bytes = store.queues().books().bytes_of_current(place);
-    let least = if is_space_wanted(store) { WORTH_IT_IF_FULL } else { WORTH_IT };
+    let least = if store.is_memory_full() { WORTH_IT_IF_FULL } else { WORTH_IT };
     if bytes <= least {
         return false;
     }
-    let Size { memory: counting, journal } = size_of_all(store, place);
-    let old = bytes.saturating_sub(counting);
-    let is_some = old > WORTH_IT_IF_FULL + counting / PART_WORTH_IT_IF_FULL;
-    old > least + counting || (is_some && store.has_room_on_full_disk(journal))
+    let counting = size_of_all(store, place);
+    bytes.saturating_sub(counting) > least + counting
 }
 
-/// What the entries take that count of queues.
-fn size_of(queues: impl Iterator<Item = Arc<Queue>>) -> Size {
-    queues.map(|queue| queue.state().size_of_entries()).sum()
-}
-
-/// What all takes that a fresh book is to say.
-fn size_of_all(store: &Store, place: usize) -> Size {
+/// What all takes of memory that a fresh book is to say, in bytes.
+fn size_of_all(store: &Store, place: usize) -> u64 {
     let of_removals = removals_of(store, place).map(|removal| Entry::Removed(removal).size());
-    of_removals.chain([size_of(of_place(store, place))]).sum()
+    let of_facts = older_facts(store, place).map(|entry| entry.size());
+    let of_queues = of_place(store, place).map(|queue| queue.state().size_of_entries());
+    of_removals.chain(of_facts).chain(of_queues).sum()
+}
+
+/// What an older journal had beside the store.
+fn older_facts(store: &Store, place: usize) -> impl Iterator<Item = Entry> + '_ {
+    let queues = of_place(store, place).flat_map(|queue| [queue.delays(), Some(queue)]).flatten();
+    queues.flat_map(|queue| entries_of_facts(queue.mark.0, queue.state().older_facts()))
 }
 
 fn removals_of(store: &Store, place: usize) -> impl Iterator<Item = Removal> + '_ {
@@ -113,19 +106,45 @@ fn of_place(store: &Store, place: usize) -> impl Iterator<Item = Arc<Queue>> + '
     store.queues().all().into_iter().filter(move |queue| store.place_of(&queue.name) == place)
 }
 
-async fn bring_up_to_date(store: &Store, place: usize) -> Result<(), SqsError> {
+/// Has each program have a book that says which one it is. It may say nothing else yet.
+pub async fn begin_all(store: &Store) -> Result<(), SqsError> {
+    for place in store.places() {
+        if store.queues().books().current(place).is_none() {
+            begin(store, place).await?;
+        }
+        let program = Entry::Program(program_entry(store, place));
+        store.perform_nameless(place, vec![Operation::Say(program)]).await?;
+    }
+    Ok(())
+}
+
+async fn begin(store: &Store, place: usize) -> Result<(), SqsError> {
+    let create = Ask::Create { store: store.next_book(place), visibility: 0, bytes: 0 };
+    store.perform_nameless(place, vec![create.into()]).await
+}
+
+/// Has a fresh book for each program, with all that counts. Refuses what no book takes.
+pub async fn begin_all_anew(store: &Store) -> Result<(), SqsError> {
+    for place in store.places() {
+        bring_up_to_date(store, place, true).await?;
+        let Some(current) = store.queues().books().current(place) else { continue };
+        if let Some(queue) = of_place(store, place).find(|queue| !queue.state().unsaid_in(current).is_empty()) {
+            let message = format!("The attributes and tags of {} are too long.", queue.name);
+            return Err(SqsError::InvalidParameterValue(message));
+        }
+    }
+    Ok(())
+}
+
+/// `begins`: a fresh one is begun, whatever it is worth.
+async fn bring_up_to_date(store: &Store, place: usize, begins: bool) -> Result<(), SqsError> {
     for name in store.queues().left_over().of(place) {
         remove_left_over(store, place, name).await?;
     }
     let books = store.queues().books();
     let is_first = books.current(place).is_none();
-    if is_first || is_worth_beginning_anew(store, place) {
-        if !is_first {
-            store.begin_segment().await;
-            store.wait_for_room(Need::Free, size_of_all(store, place).journal).await?;
-        }
-        let create = Ask::Create { store: store.next_book(place), visibility: 0, bytes: 0 };
-        store.perform_nameless(place, vec![create.into()]).await?;
+    if is_first || begins || is_worth_beginning_anew(store, place) {
+        begin(store, place).await?;
     }
     // From now on nothing is said in an earlier one.
     if !store.wait_for(place).await {
@@ -135,9 +154,7 @@ async fn bring_up_to_date(store: &Store, place: usize) -> Result<(), SqsError> {
         say_program(store, place).await?;
     }
     let earlier = books.earlier(place);
-    // Where no book goes with it, as in an older journal, nothing is gained by it on a full disk.
-    let need = if earlier.is_empty() { Need::More } else { Need::Free };
-    say_all(store, place, need).await?;
+    say_all(store, place).await?;
     if !earlier.is_empty() {
         say_removals(store, place).await?;
     }
@@ -147,14 +164,11 @@ async fn bring_up_to_date(store: &Store, place: usize) -> Result<(), SqsError> {
     Ok(())
 }
 
-/// Has the current book say of each queue what it doesn't yet, if all of that has room.
-async fn say_all(store: &Store, place: usize, need: Need) -> Result<(), SqsError> {
+/// Has the current book say of each queue what it doesn't yet.
+async fn say_all(store: &Store, place: usize) -> Result<(), SqsError> {
     let Some(current) = store.queues().books().current(place) else { return Ok(()) };
     let is_unsaid = |queue: &Arc<Queue>| !queue.state().unsaid_in(current).is_empty();
     let all: Vec<_> = of_place(store, place).filter(is_unsaid).collect();
-    if !all.is_empty() {
-        store.wait_for_room(need, size_of(all.iter().cloned()).journal).await?;
-    }
     for some in all.chunks(AT_ONCE) {
         let unsaid = some.iter().map(|queue| (queue, queue.state().unsaid_in(current)));
         let unsaid = unsaid.filter(|(_, changes)| !changes.is_empty());
@@ -163,7 +177,7 @@ async fn say_all(store: &Store, place: usize, need: Need) -> Result<(), SqsError
             for answer in answers.await {
                 match answer {
                     Err(error) if is_for_now(&error) => return Err(error),
-                    // It was removed meanwhile, or is too long for a book, and then an older journal has it.
+                    // It was removed meanwhile, or an older journal has what is too long for a book.
                     _ => {}
                 }
             }
@@ -177,10 +191,14 @@ async fn say_all(store: &Store, place: usize, need: Need) -> Result<(), SqsError
 async fn say_program(store: &Store, place: usize) -> Result<(), SqsError> {
     let attempts = of_place(store, place).flat_map(|queue| queue.state().entries_of_attempts()).map(Entry::Attempt);
     let jumps = store.queues().jumps().all().into_iter().map(|(moment, uncounted)| Entry::Jump(moment, uncounted));
-    let secret = store.queues().secret(place).unwrap_or_else(Uuid::new_v4);
-    let program = ProgramEntry { place, count: store.places().len() as u32, secret };
-    let entries = attempts.chain(jumps).chain([Entry::Program(program)]);
+    let program = Entry::Program(program_entry(store, place));
+    let entries = attempts.chain(jumps).chain(older_facts(store, place)).chain([program]);
     store.perform_nameless(place, entries.map(Operation::Say).collect()).await
+}
+
+fn program_entry(store: &Store, place: usize) -> ProgramEntry {
+    let secret = store.queues().secret(place).unwrap_or_else(Uuid::new_v4);
+    ProgramEntry { place, count: store.places().len() as u32, secret }
 }
 
 fn is_for_now(error: &SqsError) -> bool {
@@ -216,27 +234,10 @@ mod tests {
     use std::collections::BTreeMap;
 
     use super::*;
-    use crate::journal::Record;
     use crate::limits::MESSAGE_BYTES;
-    use crate::lines::AskFields;
     use crate::queues::book::QueueEntry;
     use crate::queues::Queues;
     use crate::texts::QueueName;
-
-    /// What stands before a record that is a commit by itself.
-    const FRAME_HEAD: u64 = 28;
-
-    /// How long the record of an entry is, and its message.
-    fn written(entry: &Entry) -> (u64, u64) {
-        let text = entry.text().unwrap();
-        let length = text.len() as u64;
-        let ask = Ask::Say { book: u64::MAX >> 3, entry: Arc::new(entry.clone()), text };
-        let raw = serde_json::value::to_raw_value(&AskFields::of(StoreName::of_book(u64::MAX >> 3), 0, &ask)).unwrap();
-        let mut line = Vec::new();
-        let reply = r#"{"kind":"sent","sequence":18446744073709551615}"#;
-        Record::of_ask(u64::MAX, &ask, &raw, reply).append(&mut line).unwrap();
-        (line.len() as u64 + FRAME_HEAD, length)
-    }
 
     #[test]
     fn what_counts_of_queues_is_counted_as_it_is_written() {
@@ -247,9 +248,11 @@ mod tests {
             let (queues, queue) = (Queues::default(), Arc::new(Queue::new(&entry)));
             let entry = Entry::Queue(entry);
             queues.said(0, &queue, &entry, 1, entry.size());
-            let (size, (record, text)) = (size_of([queue].into_iter()), written(&entry));
-            assert!((record..record + 512).contains(&size.journal), "{value:?}: {size:?}, {record}");
-            assert_eq!(size.memory, text + MESSAGE_BYTES, "{value:?}");
+            assert_eq!(
+                queue.state().size_of_entries(),
+                entry.text().unwrap().len() as u64 + MESSAGE_BYTES,
+                "{value:?}"
+            );
         }
     }
 }

@@ -5,7 +5,7 @@ use std::os::unix::fs::PermissionsExt;
 use std::path::{Path, PathBuf};
 
 use anyhow::{anyhow, Result};
-use clap::{CommandFactory, Parser, Subcommand};
+use clap::{Args, CommandFactory, Parser, Subcommand};
 use clap_complete::Shell;
 
 use crate::config::{LogFormat, LogLevel, LogSettings, Misuse, Options};
@@ -29,20 +29,14 @@ enum Command {
     /// Serve clients of SQS
     #[command(override_usage = "hobbychair serve [OPTIONS]")]
     Serve(Box<Options>),
-    /// Write a journal as a script for cq session
-    Dump {
-        /// The journal, as serve is given it
-        file: PathBuf,
-    },
+    /// Write the lines that a journal has, and the store that stands for earlier ones
+    Dump(Journal),
     /// Say what a journal or a copy of one holds, and where it is damaged
-    Verify {
-        /// The journal, as serve is given it
-        file: PathBuf,
-    },
+    Verify(Journal),
     /// Copy a journal, also one of a gateway that runs
     Backup {
-        /// The journal, as serve is given it
-        file: PathBuf,
+        #[command(flatten)]
+        journal: Journal,
         /// The copy, named in the same way
         copy: PathBuf,
     },
@@ -51,6 +45,15 @@ enum Command {
         /// The shell
         shell: Shell,
     },
+}
+
+#[derive(Args)]
+struct Journal {
+    /// The journal, as serve is given it
+    file: PathBuf,
+    /// The program cq [default: cq of the path]
+    #[arg(long, value_name = "PROGRAM", env = PROGRAM)]
+    cq: Option<String>,
 }
 
 /// Does what the command line says, and tells the exit status: 0, 1 if it couldn't begin or go on, or 2 if what it was
@@ -87,9 +90,11 @@ fn run(command: Command) -> Result<()> {
     let mut out = io::BufWriter::new(io::stdout());
     match command {
         Command::Serve(options) => serve_by(*options)?,
-        Command::Dump { file } => inspect::dump(&file, &mut out)?,
-        Command::Verify { file } => inspect::verify(&file, &mut out)?,
-        Command::Backup { file, copy } => inspect::back_up(&file, &copy, &mut out)?,
+        Command::Dump(Journal { file, cq }) => inspect::dump(&program(cq)?, &file, &mut out)?,
+        Command::Verify(Journal { file, cq }) => inspect::verify(&program(cq)?, &file, &mut out)?,
+        Command::Backup { journal: Journal { file, cq }, copy } => {
+            inspect::back_up(&program(cq)?, &file, &copy, &mut out)?;
+        }
         Command::Completions { shell } => {
             clap_complete::generate(shell, &mut CommandLine::command(), "hobbychair", &mut out);
         }

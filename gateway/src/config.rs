@@ -11,10 +11,9 @@ use serde::Deserialize;
 use thiserror::Error;
 
 use crate::actions::{Owner, Pauses};
-use crate::limits::Bounds;
+use crate::journal::Files;
 use crate::queues::shards::Shards;
 use crate::serve::Settings;
-use crate::store::Keeping;
 
 /// What was asked for can't be meant: the command line, a variable or the file is at fault.
 #[derive(Debug, Error)]
@@ -47,19 +46,16 @@ pub struct Options {
     /// How many programs cq share the queues [default: 1]
     #[arg(long, value_name = "N", env = "HOBBYCHAIR_SHARDS")]
     shards: Option<u32>,
-    /// Keep all on disk, in FILE.1 and so on, and start from it
+    /// Keep all on disk, in FILE.cq1 and so on, and start from it
     #[arg(long, value_name = "FILE", env = "HOBBYCHAIR_JOURNAL")]
     journal: Option<PathBuf>,
-    /// Have cq keep all on disk in place of the gateway, in FILE, or in FILE.1 and so on where several share the queues
-    #[arg(long, value_name = "FILE", env = "HOBBYCHAIR_PROVED_JOURNAL")]
-    proved_journal: Option<PathBuf>,
     /// Refuse sends when messages use so many bytes, as 512MiB
     #[arg(long, value_name = "SIZE", env = "HOBBYCHAIR_MEMORY")]
     memory: Option<Size>,
     /// Refuse requests when those that are being served keep so many bytes [default: 256MiB]
     #[arg(long, value_name = "SIZE", env = "HOBBYCHAIR_REQUEST_MEMORY")]
     request_memory: Option<Size>,
-    /// Refuse sends when the journal has so many bytes
+    /// How large the journal's files are made together [default: 256MiB for each program]
     #[arg(long, value_name = "SIZE", env = "HOBBYCHAIR_JOURNAL_SIZE")]
     journal_size: Option<Size>,
     /// Let those in alone who sign with a key of this file
@@ -351,7 +347,6 @@ impl Options {
             threads: self.threads.or(file.threads),
             shards: self.shards.or(file.shards),
             journal: self.journal.or(file.journal),
-            proved_journal: self.proved_journal.or(file.proved_journal),
             memory: self.memory.or(file.memory),
             request_memory: self.request_memory.or(file.request_memory),
             journal_size: self.journal_size.or(file.journal_size),
@@ -396,10 +391,7 @@ impl Options {
             (None, None) => None,
             _ => return Err(Misuse("a certificate and its key are given together".into()).into()),
         };
-        if self.journal.is_some() && self.proved_journal.is_some() {
-            return Err(Misuse("there is one journal: that of the gateway or that of cq".into()).into());
-        }
-        if self.journal_size.is_some() && self.journal.is_none() && self.proved_journal.is_none() {
+        if self.journal_size.is_some() && self.journal.is_none() {
             return Err(Misuse("a size of the journal is given, and no journal".into()).into());
         }
         let peek = self.peek.unwrap_or(false);
@@ -416,8 +408,8 @@ impl Options {
             None => Shards::ONE,
             Some(count) => Shards::new(count).ok_or_else(|| Misuse("shards must be 1 to 16".into()))?,
         };
-        let keeping = match self.proved_journal {
-            Some(path) => Some(Keeping { path, size: size_of_each(self.journal_size, shards)? }),
+        let journal = match self.journal {
+            Some(path) => Some(Files::new(path, shards, size_of_each(self.journal_size, shards)?)),
             None => None,
         };
         Ok(Settings {
@@ -426,9 +418,8 @@ impl Options {
             program: program(self.cq)?,
             cq_timeout: Duration::from_secs(u64::from(between("cq-timeout", cq_timeout, 1, 3_600)?)),
             shards,
-            journal: self.journal,
-            keeping,
-            bounds: Bounds { memory: self.memory.map(|size| size.0), journal: self.journal_size.map(|size| size.0) },
+            journal,
+            memory: self.memory.map(|size| size.0),
             request_memory: request_memory(self.request_memory)?,
             credentials: self.credentials,
             open: self.open.unwrap_or(false),
@@ -523,14 +514,14 @@ mod tests {
     #[test]
     fn a_file_gives_what_the_options_leave_out() {
         let file: Options = toml::from_str(
-            "host = \"::1\"\nport = 1\nmemory = \"1MiB\"\njournal-size = 5\njournal = \"j\"\nadmin = 9325\nopen = true\n\
+            "host = \"::1\"\nport = 1\nmemory = \"1MiB\"\njournal-size = \"64MiB\"\njournal = \"j\"\nadmin = 9325\nopen = true\n\
              [[queue]]\nname = \"a.fifo\"\nattributes = { FifoQueue = \"true\" }\n[[queue]]\nname = \"b.fifo\"\n",
         )
         .unwrap();
         let options = Options { port: Some(2), ..Options::default() };
         let settings = settings(options.or(file)).unwrap();
         assert_eq!((settings.host.as_str(), settings.port, settings.open), ("::1", 2, true));
-        assert_eq!((settings.bounds.memory, settings.bounds.journal), (Some(1 << 20), Some(5)));
+        assert_eq!((settings.memory, settings.journal.unwrap().of(0).size), (Some(1 << 20), Some(64)));
         assert_eq!(settings.admin, Some("9325".parse().unwrap()));
         assert_eq!((settings.connections, settings.polls), (10_000, 9_000));
         let names: Vec<_> = settings.queues.iter().map(|queue| queue.name.as_str()).collect();
@@ -560,17 +551,14 @@ mod tests {
         let alone = Options { key: Some("k".into()), ..Options::default() };
         let none = Options { connections: Some(0), ..Options::default() };
         let size = Options { journal_size: Some(Size(1)), ..Options::default() };
-        let (journal, proved_journal) = (Some("a".into()), Some("b".into()));
-        let both = Options { journal, proved_journal, ..Options::default() };
         let many = Options { shards: Some(17), ..Options::default() };
         let little = Options { request_memory: Some(Size(1 << 20)), ..Options::default() };
         let peek = Options { peek: Some(true), ..Options::default() };
         let (journal, shards) = (Some(PathBuf::from("a")), Some(2));
-        let small =
-            Options { proved_journal: journal, shards, journal_size: Some(Size(127 << 20)), ..Options::default() };
+        let small = Options { journal, shards, journal_size: Some(Size(127 << 20)), ..Options::default() };
         let kept = Options { journal_size: Some(Size(130 << 20)), ..small.clone() };
-        assert_eq!(settings(kept).unwrap().keeping.unwrap().size, Some(65));
-        for bad in [alone, none, size, both, small, many, little, peek] {
+        assert_eq!(settings(kept).unwrap().journal.unwrap().of(1).size, Some(65));
+        for bad in [alone, none, size, small, many, little, peek] {
             assert!(settings(bad).unwrap_err().is::<Misuse>());
         }
         for bad in [0, MOST_THREADS + 1, u32::MAX] {

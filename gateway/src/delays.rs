@@ -154,13 +154,7 @@ async fn move_some(store: &Store, delays: &Arc<Queue>) -> Result<(), SqsError> {
     if !is_any_due(store, delays) {
         return Ok(());
     }
-    let (due, bytes) = {
-        let state = delays.state();
-        let due = state.due(store.clock().now(), AT_ONCE);
-        let bytes = due.iter().map(|sequence| state.bytes_of_copy(*sequence)).sum();
-        (due, bytes)
-    };
-    store.test_room_to_move(bytes)?;
+    let due = delays.state().due(store.clock().now(), AT_ONCE);
     let handed = hand_out(store, &held, &due).await?;
     match move_due(store, held, &target, handed).await {
         (_, Err(error)) if is_for_now(&error) => Err(error),
@@ -230,27 +224,14 @@ pub async fn create_beside(store: &Store, queue: &Arc<Queue>) -> Result<(), SqsE
     }
 }
 
-/// Sends delayed messages to the store that an older journal has in records of their own, before anybody is served. What
-/// the store refuses is set aside until the next start, and what can't be sent for now is tried again.
-pub async fn take_over(store: &Store) {
+/// Sends delayed messages to the store that an older journal has in records of their own. What the store refuses is set aside
+/// until the next start.
+pub async fn take_over(store: &Store) -> Result<(), SqsError> {
     for queue in store.queues().all() {
         let older = queue.state().older_delayed();
-        if let Err(error) = send_older(store, &queue, older).await {
-            tracing::warn!("delayed messages of {} aren't taken over yet: {error}", queue.name);
-            tokio::spawn(keep_taking_over(store.clone(), queue));
-        }
+        send_older(store, &queue, older).await?;
     }
-}
-
-async fn keep_taking_over(store: Store, queue: Arc<Queue>) {
-    loop {
-        tokio::time::sleep(std::time::Duration::from_millis(PAUSE)).await;
-        let older = queue.state().older_delayed();
-        match send_older(&store, &queue, older).await {
-            Ok(()) | Err(SqsError::QueueDoesNotExist) => return,
-            Err(_) => {}
-        }
-    }
+    Ok(())
 }
 
 async fn send_older(store: &Store, queue: &Arc<Queue>, older: Vec<Arc<Delayed>>) -> Result<(), SqsError> {

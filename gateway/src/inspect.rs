@@ -1,105 +1,94 @@
-//! Looking at a journal that nobody opens to write, or at a copy of one.
+//! Commands that look at a journal. The programs that keep it do so, by words of their own, also while a gateway runs.
 
-use std::collections::HashSet;
 use std::io::Write;
-use std::path::Path;
+use std::path::{Path, PathBuf};
+use std::process::{Command, Stdio};
 
-use anyhow::{bail, Result};
+use anyhow::{bail, Context, Result};
+use serde::Deserialize;
 
-use crate::journal::{self, Record, Records, SegmentSummary};
-use crate::lines;
+use crate::journal::{files_of, keep_older_out, with_suffix};
 
-/// Writes the journal as a script: two lines for each request of a queue that lives.
-pub fn dump(path: &Path, out: &mut impl Write) -> Result<()> {
-    if journal::is_version1(path) {
-        return Ok(journal::dump_version1(path, out)?);
-    }
-    let (records, _) = Records::of_files(path)?;
-    let removed = records.removed().clone();
-    let mut number = 0;
-    let mut failed = None;
-    records.read(|payload| {
-        for line in payload.split(|byte| *byte == b'\n') {
-            let Some(record) = Record::read(line) else { continue };
-            let is_removed = record.store_name().is_some_and(|name| name.is_among(&removed));
-            let Some(ask) = record.ask.filter(|_| !is_removed) else { continue };
-            number += 1;
-            let mut script = Vec::new();
-            let written = lines::append_request(&mut script, record.clock, 1, number, ask);
-            if let Err(error) = written.map_err(anyhow::Error::from).and_then(|()| Ok(out.write_all(&script)?)) {
-                failed = Some(error);
-                return false;
-            }
-        }
-        true
-    })?;
-    failed.map_or(Ok(()), Err)
+/// What `cq verify` says of a file.
+#[derive(Debug, Deserialize)]
+struct Found {
+    bytes: u64,
+    records: u64,
+    /// Behind the store that stands for earlier ones.
+    lines: u64,
+    base: Option<Base>,
 }
 
-/// Copies a journal, and says what the copy holds.
-pub fn back_up(path: &Path, target: &Path, out: &mut impl Write) -> Result<()> {
-    if journal::is_version1(path) {
-        bail!("{} is a journal of version 1, which is one file: copy that", path.display());
-    }
-    write_segments(&journal::back_up(path, target)?, out)
+#[derive(Debug, Deserialize)]
+struct Base {
+    lines: u64,
 }
 
-fn write_segments(found: &[SegmentSummary], out: &mut impl Write) -> Result<()> {
-    for segment in found {
-        let (number, bytes, last) = (segment.segment, segment.bytes, segment.last_commit);
-        writeln!(out, "segment {number}: {bytes} bytes, commits up to {last}")?;
+/// The files of a journal that is there.
+fn files_there(path: &Path) -> Result<Vec<PathBuf>> {
+    let files = files_of(path)?;
+    if files.is_empty() {
+        bail!("{}: there is no journal of this version", path.display());
     }
-    Ok(())
+    if let Some(missing) = files.iter().find(|file| !file.exists()) {
+        bail!("{} is missing", missing.display());
+    }
+    Ok(files)
+}
+
+/// A word of the program about a file. What it says is given where it is asked for by `output`; where it fails, it has said why.
+fn ask(program: &str, word: &str, files: &[&Path], output: Stdio) -> Result<Vec<u8>> {
+    let mut command = Command::new(program);
+    command.arg(word).args(files).stdin(Stdio::null()).stdout(output).stderr(Stdio::piped());
+    let ended = command.spawn().and_then(std::process::Child::wait_with_output);
+    let ended = ended.with_context(|| format!("{program} can't be started"))?;
+    if !ended.status.success() {
+        let said = String::from_utf8_lossy(&ended.stderr);
+        let file = files.first().map(|file| file.display().to_string()).unwrap_or_default();
+        bail!("{file}: {}", said.trim().lines().next().unwrap_or("cq says nothing of it"));
+    }
+    Ok(ended.stdout)
 }
 
 /// Says what a journal holds. Damage is an error that says where it is.
-pub fn verify(path: &Path, out: &mut impl Write) -> Result<()> {
-    if journal::is_version1(path) {
-        writeln!(out, "{}: {} records of version 1, undamaged", path.display(), journal::count_version1(path)?)?;
-        return Ok(());
+pub fn verify(program: &str, path: &Path, out: &mut impl Write) -> Result<()> {
+    for file in files_there(path)? {
+        let said = ask(program, "verify", &[&file], Stdio::piped())?;
+        let Found { bytes, records, lines, base } =
+            serde_json::from_slice(&said).context("cq said what can't be read")?;
+        let earlier = base.map_or(0, |base| base.lines);
+        let name = file.display();
+        writeln!(out, "{name}: {bytes} bytes in {records} records: a store of {earlier} lines, and {lines} lines")?;
     }
-    let (records, found) = Records::of_files(path)?;
-    let removed = records.removed().clone();
-    let (mut requests, mut notes, mut passed, mut starts, mut bad) = (0u64, 0u64, 0u64, 0u64, 0u64);
-    let (mut created, mut strangers) = (HashSet::new(), 0u64);
-    let mut last_clock = 0;
-    let count = records.read(|payload| {
-        for line in payload.split(|byte| *byte == b'\n').filter(|line| !line.is_empty()) {
-            let Some(record) = Record::read(line) else {
-                bad += 1;
-                continue;
-            };
-            last_clock = record.clock.max(last_clock);
-            let name = record.store_name().filter(|name| !name.is_among(&removed));
-            if record.creates() {
-                created.extend(name);
-            }
-            strangers += u64::from(name.is_some_and(|name| !created.contains(&name)));
-            match (record.store_name().map(|name| name.is_among(&removed)), record.ask.is_some()) {
-                (Some(true), _) => passed += 1,
-                (Some(false), true) => requests += 1,
-                (Some(false), false) => notes += 1,
-                (None, _) if record.uncounted.is_some() => starts += 1,
-                (None, _) => bad += 1,
-            }
-        }
-        true
-    })?;
-    write_segments(&found, out)?;
-    writeln!(out, "{count} records: {requests} requests and {notes} notes of queues that are there, {passed} of queues that were removed")?;
-    if starts > 0 {
-        writeln!(out, "{starts} starts found the clock more than a day ahead")?;
+    Ok(writeln!(out, "undamaged")?)
+}
+
+/// Writes the lines of a journal, and before them the store that stands for earlier ones: file by file.
+pub fn dump(program: &str, path: &Path, out: &mut impl Write) -> Result<()> {
+    out.flush()?;
+    for file in files_there(path)? {
+        ask(program, "dump", &[&file], Stdio::inherit())?;
     }
-    writeln!(out, "the last clock is {last_clock}")?;
-    if let Some(segment) = found.last().filter(|segment| segment.shards > 1) {
-        writeln!(out, "{} programs share the queues", segment.shards)?;
-    }
-    if bad > 0 {
-        bail!("{bad} records can't be read");
-    }
-    if strangers > 0 {
-        bail!("{strangers} records are of queues whose creation is missing");
-    }
-    writeln!(out, "undamaged")?;
     Ok(())
+}
+
+/// Copies a journal. The file of the first program is copied last, and the copy counts as a journal from then on.
+pub fn back_up(program: &str, path: &Path, copy: &Path, out: &mut impl Write) -> Result<()> {
+    let files = files_there(path)?;
+    if let Some(file) = files_of(copy)?.into_iter().chain([with_suffix(copy, "1")]).find(|file| file.exists()) {
+        bail!("{} is there: a copy needs a name that nothing has", file.display());
+    }
+    let copies: Vec<_> = (1..=files.len()).map(|number| with_suffix(copy, &format!("cq{number}"))).collect();
+    let copied = files
+        .iter()
+        .zip(&copies)
+        .rev()
+        .try_for_each(|(file, copy)| ask(program, "copy", &[file, copy], Stdio::piped()).map(drop));
+    if copied.is_err() {
+        // Of a copy that isn't whole nothing stays.
+        copies.iter().for_each(|copy| drop(std::fs::remove_file(copy)));
+    }
+    copied?;
+    keep_older_out(copy)?;
+    verify(program, copy, out)
 }

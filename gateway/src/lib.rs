@@ -1,8 +1,8 @@
 //! The protocol of Amazon SQS (API 2012-11-05) in front of `cq`, the program that keeps FIFO queues and is proved.
 //!
 //! A request is read by one of two codecs (`wire`), its action (`actions`) becomes asks, and the store's task (`store`)
-//! writes them as lines (`lines`) to the program (`cq`). What comes back changes the tables (`queues`), is kept
-//! (`journal`), and goes to the client (`http`).
+//! writes them as lines (`lines`) to the program (`cq`), which keeps them (`journal`). What comes back changes the tables
+//! (`queues`), and goes to the client (`http`).
 
 mod access;
 mod actions;
@@ -30,6 +30,7 @@ mod messages;
 mod metrics;
 mod move_tasks;
 mod moves;
+mod older;
 mod parts;
 mod peek;
 mod pipes;
@@ -41,7 +42,6 @@ mod queues;
 mod redrive;
 mod repeats;
 mod retention;
-mod rolling;
 #[cfg(test)]
 mod seeded;
 mod serve;
@@ -49,4 +49,5 @@ mod store;
 mod store_bytes;
 mod texts;
 mod tls;
+mod upgrade;
 mod wire;

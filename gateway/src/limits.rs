@@ -1,4 +1,4 @@
-//! Bounds: how much of memory and of the journal's disk may be in use.
+//! Bounds: how much of memory may be in use.
 
 use std::sync::atomic::{AtomicBool, AtomicU64, Ordering};
 
@@ -22,15 +22,6 @@ pub const ID_BYTES: u64 = 3_500;
 /// What is left of the call of a send to a standard queue for five minutes, in bytes: a part of its digest, kept twice,
 /// and which message it sent.
 pub const CALL_BYTES: u64 = 120;
-
-/// How much may be in use; none where nobody asks.
-#[derive(Clone, Copy, Debug, Default, PartialEq, Eq)]
-pub struct Bounds {
-    /// Of memory, in bytes: envelopes of messages, and fixed estimates for messages and for ids that outlive theirs.
-    pub memory: Option<u64>,
-    /// Of the journal, in bytes that stand in its files. What is allocated ahead comes on top.
-    pub journal: Option<u64>,
-}
 
 /// A bound that begins to be full at 95 % of it, and ends to be so below 90 %.
 #[derive(Debug, Default)]

@@ -315,7 +315,7 @@ pub fn read_envelope(whole: &str) -> Option<(Metadata, &str)> {
 
 /// The metadata that the tables need, and that a move changes. Of a message whose envelope is too long for the store this
 /// is all that the store has in its place, and the envelope stands in parts.
-#[derive(Clone, Debug, PartialEq, Eq, Serialize, Deserialize)]
+#[derive(Clone, Debug, Default, PartialEq, Eq, Serialize, Deserialize)]
 pub struct EnvelopeHead {
     /// The number of the queue that has the parts. It stands first, where `has_parts` looks.
     #[serde(default, skip_serializing_if = "Option::is_none")]

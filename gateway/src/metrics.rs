@@ -26,11 +26,7 @@ pub struct Metrics {
     open: IntGauge,
     memory: IntGauge,
     memory_bound: IntGauge,
-    journal_bytes: IntGauge,
-    journal_bound: IntGauge,
-    records: IntGauge,
-    disk_full: IntGauge,
-    commits: IntCounter,
+    lacked_room: IntCounter,
     restarts: IntCounter,
     answering: IntGauge,
     lines_lost: IntCounter,
@@ -122,11 +118,10 @@ impl Metrics {
             open: gauge("hobbychair_open_asks", "Asks that the store hasn't answered yet.")?,
             memory: gauge("hobbychair_memory_used_bytes", "Bytes that messages and deduplication ids use.")?,
             memory_bound: gauge("hobbychair_memory_bound_bytes", "The bound of that; 0 if there is none.")?,
-            journal_bytes: gauge("hobbychair_journal_bytes", "Bytes of the journal's files.")?,
-            journal_bound: gauge("hobbychair_journal_bound_bytes", "The bound of that; 0 if there is none.")?,
-            records: gauge("hobbychair_journal_records", "Records of the journal.")?,
-            disk_full: gauge("hobbychair_journal_disk_full", "1 while the journal's disk has no space left.")?,
-            commits: counter("hobbychair_journal_commits_total", "Commits to the journal.")?,
+            lacked_room: counter(
+                "hobbychair_journal_full_total",
+                "How often a request was refused since the journal had no room for it.",
+            )?,
             answering: gauge(
                 "hobbychair_cq_answering",
                 "1 where cq answers, and 0 where the counts of messages are missing.",
@@ -191,13 +186,7 @@ impl Metrics {
         self.memory.set(figures.memory_bytes as i64);
         self.memory_bound.set(figures.memory_bound.unwrap_or(0) as i64);
         raise(&self.restarts, figures.restarts);
-        if let Some(journal) = &figures.journal {
-            self.journal_bytes.set(journal.bytes as i64);
-            self.journal_bound.set(journal.bound.unwrap_or(0) as i64);
-            self.records.set(journal.records as i64);
-            self.disk_full.set(i64::from(journal.is_disk_full));
-            raise(&self.commits, journal.commits);
-        }
+        raise(&self.lacked_room, figures.lacked_room);
     }
 
     /// The content type of the text.
@@ -215,8 +204,6 @@ fn raise(counter: &IntCounter, to: u64) {
 mod tests {
     use super::*;
 
-    use crate::store::JournalFigures;
-
     #[test]
     fn each_action_has_its_place() {
         for (place, action) in Action::ALL.into_iter().enumerate() {
@@ -232,9 +219,7 @@ mod tests {
         metrics.answered(None, 403, Duration::from_millis(2));
         let poll = metrics.poll();
         let messages = [Counts { queue: "a.fifo".into(), visible: 3, in_flight: 1, delayed: 2, set_aside: 1 }];
-        let journal = JournalFigures { bytes: 5, bound: Some(6), commits: 7, records: 8, is_disk_full: true };
-        let figures =
-            Figures { queues: 1, memory_bytes: 2, memory_bound: None, journal: Some(journal), restarts: 4, open: 9 };
+        let figures = Figures { queues: 1, memory_bytes: 2, memory_bound: None, lacked_room: 7, restarts: 4, open: 9 };
         let text = String::from_utf8(metrics.text(&messages, Some(&figures)).unwrap()).unwrap();
         for line in [
             "hobbychair_requests_total{action=\"SendMessage\",status=\"200\"} 1",
@@ -250,9 +235,7 @@ mod tests {
             "hobbychair_queues 1",
             "hobbychair_memory_used_bytes 2",
             "hobbychair_memory_bound_bytes 0",
-            "hobbychair_journal_bound_bytes 6",
-            "hobbychair_journal_disk_full 1",
-            "hobbychair_journal_commits_total 7",
+            "hobbychair_journal_full_total 7",
             "hobbychair_cq_restarts_total 4",
         ] {
             assert!(text.lines().any(|found| found == line), "{line}");
@@ -260,6 +243,6 @@ mod tests {
         drop(poll);
         let text = String::from_utf8(metrics.text(&[], None).unwrap()).unwrap();
         assert!(text.contains("hobbychair_long_polls 0") && !text.contains("a.fifo"));
-        assert!(text.contains("hobbychair_journal_commits_total 7"));
+        assert!(text.contains("hobbychair_journal_full_total 7"));
     }
 }

@@ -173,8 +173,6 @@ async fn move_some(
     if targets.is_empty() {
         return Ok(None);
     }
-    let bytes = next.iter().map(|sequence| queue.state().bytes_of_copy(*sequence)).sum();
-    store.test_room_to_move(bytes).map_err(Failure::ForNow)?;
     let named = next.iter().copied().take(targets.len()).collect();
     let handed = held.take(named).await.map_err(Failure::ForNow)?;
     let place = store.place_of(&queue.name);

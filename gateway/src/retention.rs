@@ -5,8 +5,9 @@ use std::time::Duration;
 
 use crate::clock::Moment;
 use crate::errors::SqsError;
+use crate::queues::book::Entry;
 use crate::queues::Queue;
-use crate::store::{Held, Store};
+use crate::store::{Held, Operation, Store};
 
 /// Of the time between the last record of a journal and the start that finds it, so much makes messages older, in
 /// milliseconds.
@@ -63,9 +64,22 @@ impl Jumps {
 }
 
 /// How much of the time from the last record to a start doesn't count, in milliseconds, if any.
-pub fn uncounted(last_record: Moment, start: Moment) -> Option<u64> {
+fn uncounted(last_record: Moment, start: Moment) -> Option<u64> {
     let passed = start.saturating_sub(last_record);
     passed.checked_sub(COUNTED).filter(|uncounted| *uncounted > 0 && last_record > 0)
+}
+
+/// The clock may be more than a day ahead of the last record: of that time a day counts. A book says so, so that it is the
+/// same at later starts.
+pub async fn tell_jump(store: &Store, last_record: Moment) {
+    let now = store.clock().now();
+    let Some(uncounted) = uncounted(last_record, now) else { return };
+    tracing::warn!("the clock is far ahead of the last record: {uncounted} ms of it make no message older");
+    store.queues().jumps().add(now, uncounted);
+    let said = store.perform_nameless(0, vec![Operation::Say(Entry::Jump(now, uncounted))]).await;
+    if let Err(error) = said {
+        tracing::warn!("a later start doesn't know that the clock was far ahead: {error}");
+    }
 }
 
 /// Sweeps queues for as long as the gateway serves.

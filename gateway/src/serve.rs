@@ -3,14 +3,12 @@
 use std::cell::Cell;
 use std::io::Write;
 use std::path::PathBuf;
-use std::sync::atomic::Ordering;
 use std::sync::{Arc, OnceLock};
 use std::time::Duration;
 
 use anyhow::{anyhow, bail, Context, Result};
 use tokio::net::TcpListener;
 use tokio::signal::unix::{signal, Signal, SignalKind};
-use tokio::sync::oneshot;
 use tokio::task::JoinHandle;
 
 use crate::access::Keys;
@@ -24,22 +22,19 @@ use crate::cq::{test_built, test_version, Cq, KeptFile};
 use crate::delays;
 use crate::ending::End;
 use crate::http::{is_of_this_machine, listen, Addresses, Door, Hosts, Places, Service};
-use crate::journal::{self, CommitBatch, Journal, LockedJournal, Opened, Record};
-use crate::limits::Bounds;
+use crate::journal::{Files, Lock};
 use crate::metrics::Metrics;
 use crate::move_tasks;
 use crate::moves;
 use crate::parts;
 use crate::peek::Peeks;
 use crate::purges;
-use crate::queues::book::Entry;
 use crate::queues::shards::Shards;
 use crate::queues::{Image, Queues};
 use crate::retention;
-use crate::store::{
-    self, Ended, Keeping, Kept, Operation, Ready, ReplayError, Replayed, Start, Store, Tables, ToldError,
-};
+use crate::store::{self, Ends, Kept, Ready, Start, Store, ToldError};
 use crate::tls::Certificate;
+use crate::upgrade::Upgrade;
 
 /// What a gateway is told at its start.
 #[derive(Clone, Debug)]
@@ -52,10 +47,10 @@ pub struct Settings {
     pub cq_timeout: Duration,
     /// How many of it share the queues.
     pub shards: Shards,
-    pub journal: Option<PathBuf>,
-    /// The programs keep their lines themselves, in place of a journal.
-    pub keeping: Option<Keeping>,
-    pub bounds: Bounds,
+    /// Where the programs keep their lines, if they do.
+    pub journal: Option<Files>,
+    /// So many bytes messages and what else counts may use.
+    pub memory: Option<u64>,
     /// So many bytes may be kept by all requests that are being served.
     pub request_memory: usize,
     /// The file of keys; none where everybody is served.
@@ -86,7 +81,7 @@ impl Settings {
     }
 }
 
-/// So long a signal waits for open requests and for the journal.
+/// So long a signal waits for open requests.
 const LAST_ANSWERS: Duration = Duration::from_secs(8);
 
 /// Serves until a signal comes, be it during the start. An error says why it couldn't begin or go on.
@@ -97,20 +92,12 @@ pub async fn serve(settings: Settings) -> Result<()> {
     let wants_reading = Cell::new(false);
     let preparing = tokio::spawn(prepare(settings.clone()));
     let Some(prepared) = unless_ended(preparing, &mut signals, &wants_reading).await? else { return Ok(()) };
-    // The system ends a program with the thread that started it, and this one is there to the end.
-    let count = if settings.keeping.is_some() { 0 } else { settings.shards.count() };
-    let cqs = Cq::start_all(&settings.program, count, settings.cq_timeout)?;
-    let starting = tokio::spawn(start(settings.clone(), prepared, cqs));
+    let starting = tokio::spawn(start(settings.clone(), prepared));
     let Some(started) = unless_ended(starting, &mut signals, &wants_reading).await? else { return Ok(()) };
     if wants_reading.get() {
         Entrance::read_again(&started.entrance.keys, &started.entrance.certificate);
     }
-    let journal = started.running.journal.clone();
-    let served = answer(&settings, started, &mut signals).await;
-    if let Some(journal) = journal {
-        journal.close().await;
-    }
-    served
+    answer(&settings, started, &mut signals).await
 }
 
 /// What a part of the start came to; nothing if a signal ended it.
@@ -135,7 +122,7 @@ struct Prepared {
     admin: Arc<Admin>,
 }
 
-/// What is there when the journal is replayed.
+/// What is there when the store is.
 struct Started {
     entrance: Entrance,
     places: Places,
@@ -162,18 +149,15 @@ async fn prepare(settings: Arc<Settings>) -> Result<Prepared> {
     Ok(Prepared { entrance, places, admin })
 }
 
-async fn start(settings: Arc<Settings>, prepared: Prepared, cqs: Vec<Cq>) -> Result<Started> {
+async fn start(settings: Arc<Settings>, prepared: Prepared) -> Result<Started> {
     let Prepared { entrance, places, admin } = prepared;
-    let running = begin(&settings, &admin.health, cqs).await?;
+    let running = begin(&settings, &admin.health).await?;
     // Only one store is ever set.
     let _ = admin.store.set(running.store.clone());
     tokio::spawn(retention::keep_sweeping(running.store.clone()));
     tokio::spawn(parts::keep_removing(running.store.clone()));
     tokio::spawn(delays::keep_moving(running.store.clone()));
     tokio::spawn(book::keep(running.store.clone()));
-    if running.journal.is_some() {
-        tokio::spawn(crate::rolling::keep_rolling(running.store.clone()));
-    }
     Ok(Started { entrance, places, admin, running })
 }
 
@@ -232,8 +216,8 @@ fn listen_for_operators(address: &Address) -> Result<TcpListener> {
 /// What goes on from the start to the end.
 struct RunningStore {
     store: Store,
-    ended: oneshot::Receiver<Ended>,
-    journal: Option<Journal>,
+    ends: Ends,
+    _lock: Option<Lock>,
 }
 
 fn clock_of(settings: &Settings) -> Arc<Clock> {
@@ -243,159 +227,105 @@ fn clock_of(settings: &Settings) -> Arc<Clock> {
     })
 }
 
-/// Starts a program that keeps its lines, and takes up what it tells of its store.
+/// Starts a program that keeps its lines, and takes up what it tells of its store. Where it ends meanwhile, it is started once
+/// more.
 async fn tell(program: &str, file: &KeptFile, patience: Duration, peek: bool) -> Result<(Ready, Image), ToldError> {
-    let mut image = Image::new(peek);
-    let ready = store::start_told(program, file, patience, &mut |chunk| image.feed(chunk)).await?;
-    Ok((ready, image))
+    let mut ended = None;
+    loop {
+        let mut image = Image::new(peek);
+        match store::start_told(program, file, patience, &mut |chunk| image.feed(chunk)).await {
+            Ok(ready) => return Ok((ready, image)),
+            Err(error) if error.is_of_program() && ended.is_none() => {
+                tracing::warn!("cq is started again. Before, {error}");
+                ended = Some(error);
+            }
+            Err(error) => return Err(error),
+        }
+    }
+}
+
+/// What is known of queues before anybody asks.
+struct Begun {
+    cqs: Vec<Cq>,
+    kept: Option<Kept>,
+    /// When the store was asked for the last time.
+    last: Moment,
+    _lock: Option<Lock>,
 }
 
 /// Starts programs that keep their lines, and makes the tables of what each tells of its store.
-async fn begin_kept(settings: &Settings, health: &Health, keeping: &Keeping) -> Result<RunningStore> {
-    let (clock, queues) = (clock_of(settings), Arc::new(Queues::new(settings.peek)));
-    let (shards, program, patience) = (settings.shards, settings.program.clone(), settings.cq_timeout);
-    let starting: Vec<_> = shards
+async fn begin_kept(
+    settings: &Settings,
+    health: &Health,
+    files: &Files,
+    tables: (&Arc<Clock>, &Queues),
+) -> Result<Begun> {
+    let (clock, queues) = tables;
+    let (program, patience) = (settings.program.as_str(), settings.cq_timeout);
+    let lock = Upgrade { program, patience, files, clock, progress: &health.replayed }.prepare().await?;
+    let starting: Vec<_> = settings
+        .shards
         .all()
         .map(|shard| {
-            let (program, file, peek) = (program.clone(), keeping.file(shards, shard.place()), settings.peek);
-            tokio::spawn(async move {
-                let told = match tell(&program, &file, patience, peek).await {
-                    Err(error) if error.is_of_program() => {
-                        tracing::warn!("cq is started again. Before, {error}");
-                        tell(&program, &file, patience, peek).await
-                    }
-                    told => told,
-                };
-                told.map(|(ready, image)| (ready, image, file))
-            })
+            let (program, file, peek) = (settings.program.clone(), files.of(shard.place()), settings.peek);
+            tokio::spawn(async move { tell(&program, &file, patience, peek).await.map(|told| (told, file)) })
         })
         .collect();
-    let (mut cqs, mut begun, mut last, mut lines) = (Vec::new(), Vec::new(), 0, 0);
-    for (shard, starting) in shards.all().zip(starting) {
-        let (ready, image, file) = starting.await??;
+    let mut kept = Kept { files: Vec::new(), begun: Vec::new() };
+    let (mut cqs, mut last, mut lines) = (Vec::new(), 0, 0);
+    for (shard, starting) in settings.shards.all().zip(starting) {
+        let ((ready, image), file) = starting.await??;
         last = last.max(image.last());
         lines += ready.lines;
-        begun.push((ready.line, image.largest_number()));
+        kept.begun.push((ready.line, image.largest_number()));
         cqs.push(ready.cq);
         queues.take_up(shard, image).with_context(|| file.path.display().to_string())?;
+        kept.files.push(file);
     }
     clock.go_on_from(last);
-    health.replayed.store(lines, Ordering::Relaxed);
     if lines > 0 {
         say(&format!("took up {lines} lines of the journal"));
     }
-    let jump = retention::uncounted(last, clock.now()).map(|uncounted| tell_jump(&queues, clock.now(), uncounted));
-    let kept = Some(Kept { keeping: keeping.clone(), begun });
-    let bounds = Bounds { journal: None, ..settings.bounds };
-    let (store, ended) =
-        store::start(Start { program, patience, shards, cqs, queues, clock, journal: None, kept, bounds });
-    finish_all(&store, jump).await;
-    Ok(RunningStore { store, ended, journal: None })
+    Ok(Begun { cqs, kept: Some(kept), last, _lock: Some(lock) })
+}
+
+/// Starts the programs, and the store in front of them.
+async fn begin(settings: &Settings, health: &Health) -> Result<RunningStore> {
+    let (clock, queues) = (clock_of(settings), Arc::new(Queues::new(settings.peek)));
+    let (program, patience, shards) = (settings.program.clone(), settings.cq_timeout, settings.shards);
+    let Begun { cqs, kept, last, _lock } = match &settings.journal {
+        Some(files) => begin_kept(settings, health, files, (&clock, &queues)).await?,
+        None => Begun { cqs: Cq::start_all(&program, shards.count(), patience)?, kept: None, last: 0, _lock: None },
+    };
+    let memory = settings.memory;
+    let (store, ends) = store::start(Start { program, patience, shards, cqs, queues, clock, kept, memory });
+    finish_all(&store, last).await;
+    Ok(RunningStore { store, ends, _lock })
 }
 
 /// Brings to its end what was cut off, before anybody is served.
-async fn finish_all(store: &Store, jump: Option<Entry>) {
+async fn finish_all(store: &Store, last: Moment) {
     book::prepare(store).await;
-    if let Some(jump) = jump {
-        if let Err(error) = store.perform_nameless(0, vec![Operation::Say(jump)]).await {
-            tracing::warn!("a later start doesn't know that the clock was far ahead: {error}");
-        }
-    }
+    retention::tell_jump(store, last).await;
     store.queues().parts().settle_all();
     moves::finish(store).await;
     purges::finish(store).await;
-    delays::take_over(store).await;
-}
-
-/// Brings the programs to where the journal is.
-async fn begin(settings: &Settings, health: &Health, mut cqs: Vec<Cq>) -> Result<RunningStore> {
-    if let Some(keeping) = &settings.keeping {
-        return begin_kept(settings, health, keeping).await;
+    if let Err(error) = delays::take_over(store).await {
+        tracing::warn!("delayed messages of an earlier version wait for the next start: {error}");
     }
-    let clock = clock_of(settings);
-    let mut queues = Arc::new(Queues::new(settings.peek));
-    let locked = lock_journal(settings).await?;
-    let shards = settings.shards;
-    let (journal, replayed) = match locked {
-        Some(locked) => {
-            let opened = locked.open(shards)?;
-            let mut tables = Tables { queues, clock: clock.clone(), progress: health.replayed.clone() };
-            let (fed, replayed) = feed(settings, &opened, &mut tables, cqs).await?;
-            (cqs, queues) = (fed, tables.queues.clone());
-            let journal = opened.begin(replayed.records, end_at_once)?;
-            if let Some(uncounted) = retention::uncounted(replayed.latest, tables.clock.now()) {
-                record_jump(&journal, &tables, uncounted)?;
-            }
-            (Some(journal), replayed)
-        }
-        None => (None, Replayed::default()),
-    };
-    if replayed.records > 0 {
-        say(&format!("replayed {} records of the journal", replayed.records));
-    }
-    let (program, patience, bounds) = (settings.program.clone(), settings.cq_timeout, settings.bounds);
-    let journals = journal.clone();
-    let (store, ended) =
-        store::start(Start { program, patience, shards, cqs, queues, clock, journal: journals, kept: None, bounds });
-    finish_all(&store, None).await;
-    Ok(RunningStore { store, ended, journal })
-}
-
-/// Feeds the journal to the programs, and to the tables. Where a program ends on the way, all are started again and fed once more,
-/// and the tables made anew: at the second such end in a row the gateway ends.
-async fn feed(
-    settings: &Settings,
-    opened: &Opened,
-    tables: &mut Tables,
-    cqs: Vec<Cq>,
-) -> Result<(Vec<Cq>, Replayed), ReplayError> {
-    let ended = match store::replay_all(cqs, settings.shards, opened, tables).await {
-        Err(error) if error.is_of_program() => error,
-        fed => return fed,
-    };
-    tables.queues = Arc::new(Queues::new(settings.peek));
-    let cqs = Cq::start_all(&settings.program, settings.shards.count(), settings.cq_timeout)?;
-    let fed = store::replay_all(cqs, settings.shards, opened, tables).await?;
-    tracing::warn!("cq was started again, and is where the journal is. Before, {ended}");
-    Ok(fed)
-}
-
-/// The clock is more than a day ahead of the journal: of that time a day counts for retention. Tells what a book is to say,
-/// so that it does so at later starts, too.
-fn tell_jump(queues: &Queues, now: Moment, uncounted: u64) -> Entry {
-    tracing::warn!("the clock is far ahead of the last record: {uncounted} ms of it make no message older");
-    queues.jumps().add(now, uncounted);
-    Entry::Jump(now, uncounted)
-}
-
-/// The same, where the gateway has a journal of its own.
-fn record_jump(journal: &Journal, tables: &Tables, uncounted: u64) -> Result<()> {
-    let now = tables.clock.now();
-    tell_jump(&tables.queues, now, uncounted);
-    let mut batch = CommitBatch { count: 1, ..CommitBatch::default() };
-    Record::of_jump(now, uncounted).append(&mut batch.records)?;
-    journal.write_first(batch);
-    Ok(())
-}
-
-async fn lock_journal(settings: &Settings) -> Result<Option<LockedJournal>> {
-    let Some(path) = &settings.journal else { return Ok(None) };
-    let locked = LockedJournal::new(path)?;
-    journal::convert(&settings.program, path, settings.shards).await?;
-    Ok(Some(locked))
 }
 
 async fn answer(settings: &Settings, started: Started, signals: &mut Signals) -> Result<()> {
     let Started { entrance, places, admin, running } = started;
     let Entrance { listener, keys, certificate } = entrance;
-    let RunningStore { store, ended, .. } = running;
+    let RunningStore { store, mut ends, _lock } = running;
     // The program has to answer before anybody is told that there is something to ask.
     let is_answering = tokio::select! {
         is_answering = store.is_answering() => is_answering,
         () = signals.wait_for_end(|| Entrance::read_again(&keys, &certificate)) => return Ok(()),
     };
     if !is_answering {
-        bail!(why(ended).await);
+        bail!(why(&mut ends).await);
     }
     let (end, ending) = End::new();
     move_tasks::resume(&store, &keys);
@@ -418,7 +348,7 @@ async fn answer(settings: &Settings, started: Started, signals: &mut Signals) ->
     tokio::select! {
         () = signals.wait_for_end(|| Entrance::read_again(&keys, &certificate)) => {}
         ended = &mut served => return Err(anyhow!("the server ended: {ended:?}")),
-        reason = ended => bail!(reason.map_or_else(|_| "The store is gone.".to_string(), |ended| ended.to_string())),
+        reason = why(&mut ends) => bail!(reason),
     }
     admin.health.ends();
     notify_supervisor(sd_notify::NotifyState::Stopping);
@@ -472,18 +402,12 @@ impl Signals {
     }
 }
 
-async fn why(ended: oneshot::Receiver<Ended>) -> String {
-    ended.await.map_or_else(|_| "The store is gone.".to_string(), |ended| ended.to_string())
+async fn why(ends: &mut Ends) -> String {
+    ends.recv().await.map_or_else(|| "The store is gone.".to_string(), |ended| ended.to_string())
 }
 
 /// Writes a line on standard output. Where nobody reads it, it is lost.
 fn say(line: &str) {
     let mut out = std::io::stdout();
     let _ = writeln!(out, "{line}").and_then(|()| out.flush());
-}
-
-/// Nothing goes on from memory that is ahead of the disk.
-fn end_at_once(why: &str) {
-    crate::log::end(Some(&format!("hobbychair: {why}")));
-    std::process::exit(1);
 }

@@ -6,6 +6,7 @@ import itertools
 import re
 import shutil
 import subprocess
+import time
 from collections.abc import Callable, Iterator
 from pathlib import Path
 from typing import Any
@@ -28,6 +29,16 @@ def pytest_sessionstart() -> None:
         pytest.exit(f"{program()} isn't built. To prove and build it: ./cq --build", returncode=3)
     if shutil.which(gateway_program()) is None:
         pytest.exit(f"{gateway_program()} isn't built. To build it: cargo build --release", returncode=3)
+
+
+@pytest.fixture(autouse=True)
+def journals_go(request) -> Iterator[None]:
+    """The files of journals go with their test: each has 64 MiB."""
+    room = request.getfixturevalue("tmp_path") if "tmp_path" in request.fixturenames else None
+    yield
+    for file in room.rglob("*.cq[0-9]*") if room else []:
+        if not file.is_dir():
+            file.unlink(missing_ok=True)
 
 
 @pytest.fixture(scope="session")
@@ -61,7 +72,9 @@ def small_disk(tmp_path) -> Iterator[Callable[[str], Path]]:
 
     yield mount
     for room in disks:
-        subprocess.run(["umount", str(room)], check=True)
+        # A program that was just killed may have its file for a moment.
+        while subprocess.run(["umount", str(room)]).returncode != 0:
+            time.sleep(0.1)
 
 
 def new_name() -> str:

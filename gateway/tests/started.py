@@ -23,25 +23,17 @@ from botocore.config import Config
 TOP = Path(__file__).resolve().parents[2]
 START = 1_700_000_000_000
 
-# Whether gateways that have a journal leave it to cq. Then what tests say of its size, in bytes of records, counts for none.
-IS_KEPT_BY_CQ = os.environ.get("HOBBYCHAIR_TEST_JOURNAL") == "proved"
-
-
-def _of_journal(words: list[str]) -> list[str]:
-    """The words, where a journal is to be kept by cq."""
-    if not IS_KEPT_BY_CQ or "--journal" not in words:
+def _with_small_journal(words: list[str]) -> list[str]:
+    """The words. Where they name a journal and say nothing of its size, it is as small as can be."""
+    if "--journal" not in words or "--journal-size" in words:
         return words
-    words = ["--proved-journal" if word == "--journal" else word for word in words]
-    if "--journal-size" in words:
-        place = words.index("--journal-size")
-        del words[place : place + 2]
     programs = int(words[words.index("--shards") + 1]) if "--shards" in words else 1
-    return [*words, *size_of_journals(programs)]
+    return [*words, "--journal-size", f"{64 * programs}MiB"]
 
 
-def size_of_journals(programs: int) -> list[str]:
-    """So large are journals that so many programs keep: as small as they can be."""
-    return ["--journal-size", f"{64 * programs}MiB"]
+def files_of(journal: Path) -> list[Path]:
+    """The files of a journal, one for each program."""
+    return sorted(journal.parent.glob(f"{journal.name}.cq[0-9]"))
 
 
 def program() -> str:
@@ -70,9 +62,13 @@ def run(*words: str, timeout: float = 60, **variables: str) -> subprocess.Comple
 
 
 def names_in_store(journal: Path) -> set[str]:
-    """The names that live in the store by a journal that `cq` keeps. Nobody asks for anything meanwhile."""
+    """The names that live in the stores by a journal. Nobody asks for anything meanwhile."""
+    return {name for file in files_of(journal) for name in _names_in(file)}
+
+
+def _names_in(file: Path) -> set[str]:
     with tempfile.TemporaryDirectory() as room:
-        copy = shutil.copy(journal, room)
+        copy = shutil.copy(file, room)
         told = subprocess.run([program(), "session", "--journal", copy, "--tell-store"], stdin=subprocess.DEVNULL,
                               capture_output=True, check=True, text=True).stdout
     lines = [json.loads(line) for line in told.splitlines()]
@@ -96,7 +92,7 @@ class Started:
     """A running gateway."""
 
     def __init__(self, *words: str, room: Path | None = None) -> None:
-        self.words = _of_journal(list(words))
+        self.words = _with_small_journal(list(words))
         self.clock_file = None
         if room is not None:
             self.clock_file = room / "clock"

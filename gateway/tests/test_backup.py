@@ -1,13 +1,14 @@
-"""Copies of a journal: good ones of a gateway that runs, and copies that lack something."""
+"""Commands that look at a journal: copies of one, also of a gateway that runs, and what it says where something is wrong."""
 
 from __future__ import annotations
 
 import itertools
+import json
 import threading
 import time
 from pathlib import Path
 
-from started import ByJson, Refused, Started, run
+from started import ByJson, Refused, Started, files_of, run
 
 FIFO = {"FifoQueue": "true"}
 
@@ -20,14 +21,11 @@ def kept_of(copy: Path) -> list[str]:
 
 
 def test_a_copy_of_a_gateway_that_writes_is_good(tmp_path):
-    """Queues come and go all the while, so that segments are written anew under the copies."""
+    """It has all that was acknowledged when it was begun, and the gateway goes on."""
     journal = tmp_path / "journal"
-    gateway = Started("--journal", str(journal), "--journal-size", "1MiB", "--no-pauses")
+    gateway = Started("--journal", str(journal), "--no-pauses")
     call = ByJson(gateway.url)
-    call("CreateQueue", QueueName="kept.fifo", Attributes=FIFO)
-    for place in range(3):
-        call("SendMessage", QueueUrl="kept.fifo", MessageBody=str(place), MessageGroupId="g",
-             MessageDeduplicationId=str(place))
+    call("CreateQueue", QueueName="kept.fifo", Attributes={**FIFO, "VisibilityTimeout": "0"})
     is_over = threading.Event()
     failures: list[BaseException] = []
 
@@ -36,19 +34,15 @@ def test_a_copy_of_a_gateway_that_writes_is_good(tmp_path):
         try:
             for turn in itertools.count():
                 name = f"passing-{client}.fifo"
-                try:
-                    own("CreateQueue", QueueName=name, Attributes=FIFO, tags={"kind": "remove"})
-                    for place in range(20):
-                        own("SendMessage", QueueUrl=name, MessageBody="x" * 30_000, MessageGroupId="g",
-                            MessageDeduplicationId=f"{turn}-{place}")
-                except Refused as refused:
-                    assert refused.code == "OverLimit"
-                try:
-                    own("DeleteQueue", QueueUrl=name)
-                except Refused as refused:
-                    assert "NonExistentQueue" in refused.code
+                own("CreateQueue", QueueName=name, Attributes=FIFO, tags={"kind": "remove"})
+                for place in range(20):
+                    own("SendMessage", QueueUrl=name, MessageBody="x" * 30_000, MessageGroupId="g",
+                        MessageDeduplicationId=f"{turn}-{place}")
+                own("DeleteQueue", QueueUrl=name)
                 if is_over.is_set():
                     return
+        except Refused as refused:
+            assert refused.code == "OverLimit"
         except BaseException as error:
             failures.append(error)
 
@@ -56,57 +50,60 @@ def test_a_copy_of_a_gateway_that_writes_is_good(tmp_path):
     for thread in threads:
         thread.start()
     copies = []
-    for number in range(8):
-        time.sleep(0.5)
-        copy = tmp_path / f"copy-{number}"
-        told = run("backup", str(journal), str(copy), timeout=120)
-        assert told.returncode == 0, told.stderr
-        assert "commits up to" in told.stdout
-        copies.append(copy)
+    for number in range(6):
+        time.sleep(0.3)
+        call("SendMessage", QueueUrl="kept.fifo", MessageBody=str(number), MessageGroupId="g", MessageDeduplicationId=str(number))
+        copies.append(tmp_path / f"copy{number}")
+        made = run("backup", str(journal), str(copies[-1]))
+        assert made.returncode == 0 and made.stdout.endswith("undamaged\n"), made.stderr
     is_over.set()
     for thread in threads:
         thread.join()
-    assert failures == []
-    assert len(list(tmp_path.glob("journal.[0-9]*"))) > 1 and not journal.with_name("journal.1").exists(), (
-        "segments were written anew")
-    assert gateway.stop() == 0
-    for copy in copies:
-        told = run("verify", str(copy), timeout=120)
-        assert told.returncode == 0 and told.stdout.endswith("undamaged\n"), told.stderr
-        assert kept_of(copy) == ["0", "1", "2"]
+    assert failures == [] and gateway.stop() == 0
+    for number, copy in enumerate(copies):
+        assert kept_of(copy) == [str(place) for place in range(number + 1)]
+        for file in files_of(copy):
+            file.unlink()
 
 
 def test_a_copy_needs_a_free_name_and_a_journal(tmp_path):
     journal = tmp_path / "journal"
-    gateway = Started("--journal", str(journal))
-    assert run("backup", str(journal), str(tmp_path / "copy"), timeout=120).returncode == 0
-    again = run("backup", str(journal), str(tmp_path / "copy"), timeout=120)
-    assert again.returncode == 1
-    assert again.stderr == f"hobbychair: {tmp_path}/copy.1 is there: a copy needs a name that nothing has\n"
-    none = run("backup", str(tmp_path / "none"), str(tmp_path / "other"), timeout=120)
-    assert none.returncode == 1 and "there is no journal" in none.stderr
-    assert list(tmp_path.glob("other*")) == []
-    folder = tmp_path / "folder"
-    missing = run("backup", str(journal), str(folder / "copy"), timeout=120)
-    assert missing.returncode == 1
-    assert missing.stderr == f"hobbychair: there is no folder {folder} for the journal {folder / 'copy'}\n"
-    folder.mkdir()
-    named = run("backup", str(journal), str(folder), timeout=120)
-    assert named.returncode == 1
-    assert named.stderr == f"hobbychair: {folder} is a folder: a journal is named by a file in one, as {folder}/journal\n"
-    assert sorted(tmp_path.glob("folder*")) == [folder] and list(folder.iterdir()) == []
+    gateway = Started("--journal", str(journal), "--shards", "2")
+    ByJson(gateway.url)("CreateQueue", QueueName="kept.fifo", Attributes=FIFO)
+    ByJson(gateway.url)("SendMessage", QueueUrl="kept.fifo", MessageBody="0", MessageGroupId="g", MessageDeduplicationId="0")
+    assert run("backup", str(journal), str(tmp_path / "copy")).returncode == 0
+    assert sorted(file.name for file in tmp_path.glob("copy*")) == ["copy.1", "copy.cq1", "copy.cq2"]
+    before = [file.read_bytes() for file in files_of(tmp_path / "copy")]
+    again = run("backup", str(journal), str(tmp_path / "copy"))
+    assert again.returncode == 1 and f"{tmp_path}/copy.cq1 is there: a copy needs a name that nothing has" in again.stderr
+    assert [file.read_bytes() for file in files_of(tmp_path / "copy")] == before
     assert gateway.stop() == 0
+    gateway = Started("--journal", str(tmp_path / "copy"), "--shards", "2")
+    assert ByJson(gateway.url)("ReceiveMessage", QueueUrl="kept.fifo")["Messages"][0]["Body"] == "0"
+    assert gateway.stop() == 0
+    for words in (["verify", "none"], ["dump", "none"], ["backup", "none", "copy2"]):
+        ended = run(words[0], *(str(tmp_path / word) for word in words[1:]))
+        assert ended.returncode == 1 and len(ended.stderr.splitlines()) == 1 and "there is no journal" in ended.stderr
 
 
-def test_what_a_kill_left_half_made_goes_at_the_next_start(tmp_path):
+def test_what_a_journal_holds_is_told_and_what_is_wrong_with_it(tmp_path):
     journal = tmp_path / "journal"
     gateway = Started("--journal", str(journal))
-    gateway.kill()
-    for name in ("journal.2.new", "journal.17.new"):
-        journal.with_name(name).write_bytes(b"half")
-    others = [journal.with_name(name) for name in ("journal.new", "journal.x.new", "other.2.new")]
-    for other in others:
-        other.write_bytes(b"not ours")
-    gateway.start()
-    assert not list(tmp_path.glob("journal.[0-9]*.new")) and all(other.exists() for other in others)
-    assert gateway.stop() == 0
+    call = ByJson(gateway.url)
+    call("CreateQueue", QueueName="q.fifo", Attributes=FIFO)
+    call("SendMessage", QueueUrl="q.fifo", MessageBody="a body", MessageGroupId="g", MessageDeduplicationId="0")
+    for _ in range(2):
+        told = run("verify", str(journal))
+        assert told.returncode == 0 and told.stdout.startswith(f"{journal}.cq1: ") and told.stdout.endswith("undamaged\n")
+        lines = [json.loads(line) for line in run("dump", str(journal)).stdout.splitlines()]
+        assert any(line.get("ask", {}).get("body", "").endswith("a body") for line in lines)
+        gateway.stop()
+    (file,) = files_of(journal)
+    file.rename(tmp_path / "journal.cq2")
+    for word in ("verify", "dump"):
+        ended = run(word, str(journal))
+        assert ended.returncode == 1 and f"{journal}.cq1 is missing" in ended.stderr
+    (tmp_path / "journal.cq1").write_text("Dear Sir or Madam")
+    for word in ("verify", "dump"):
+        ended = run(word, str(journal))
+        assert ended.returncode == 1 and f"{journal}.cq1: cq: 6" in ended.stderr

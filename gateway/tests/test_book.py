@@ -2,8 +2,6 @@
 
 from __future__ import annotations
 
-import json
-import re
 import threading
 import time
 from collections.abc import Callable
@@ -11,7 +9,7 @@ from pathlib import Path
 
 import pytest
 
-from started import IS_KEPT_BY_CQ, ByJson, Refused, Started, names_in_store, run
+from started import ByJson, Refused, Started, names_in_store
 from steered import SteeredCq
 
 TAGS = {"team": "shop", "kind": "remove"}
@@ -78,16 +76,7 @@ class Kept:
 
     def store_names(self) -> set[str]:
         """The names that the store has by the journal."""
-        if IS_KEPT_BY_CQ:
-            return names_in_store(self.journal)
-        names = set()
-        for line in run("dump", str(self.journal)).stdout.splitlines():
-            ask = json.loads(line).get("ask", {})
-            if ask.get("kind") == "create":
-                names.add(ask["queue"])
-            elif ask.get("kind") == "remove":
-                names.discard(ask["queue"])
-        return names
+        return names_in_store(self.journal)
 
 
 @pytest.fixture
@@ -173,28 +162,6 @@ def test_a_change_that_ends_the_program_each_time_changes_nothing(kept):
     for _ in range(2):
         assert kept.shown() == before and kept.names() == ["q"]
         kept.restart()
-
-
-@pytest.mark.skipif(IS_KEPT_BY_CQ, reason="the gateway's own journal alone does this")
-def test_no_record_says_anything_of_queues_beside_what_is_asked(kept):
-    kept.create()
-    kept.call("TagQueue", QueueUrl="q", Tags={"a": "b"})
-    kept.call("SetQueueAttributes", QueueUrl="q", Attributes={"VisibilityTimeout": "8"})
-    kept.send("late", DelaySeconds=60)
-    kept.call("PurgeQueue", QueueUrl="q")
-    kept.call("UntagQueue", QueueUrl="q", TagKeys=["team"])
-    kept.create("gone")
-    kept.call("DeleteQueue", QueueUrl="gone")
-    before = kept.shown()
-    data = b"".join(segment.read_bytes() for segment in kept.journal.parent.glob("journal.[0-9]*"))
-    records = [json.loads(line) for line in re.findall(rb'\{"clock":.*\}(?=\n)', data)]
-    assert {name for record in records for name in record} == {"clock", "ask", "digest"}
-    entries = [json.loads(record["ask"]["body"]) for record in records if record["ask"]["queue"] == "book1.fifo"
-               and record["ask"]["kind"] == "send"]
-    assert [next(iter(entry)) for entry in entries] == ["queue"] * 6 + ["queue", "removed"]
-    assert entries[3]["queue"]["purging"] == {"up_to": 0, "delayed_up_to": 1} and "purging" not in entries[4]["queue"]
-    kept.restart()
-    assert kept.shown() == before and kept.names() == ["q"]
 
 
 def test_changes_at_once_are_all_there(kept):

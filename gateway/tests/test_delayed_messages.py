@@ -2,7 +2,6 @@
 
 from __future__ import annotations
 
-import json
 import random
 import threading
 import time
@@ -12,7 +11,7 @@ from pathlib import Path
 
 import pytest
 
-from started import IS_KEPT_BY_CQ, START, ByJson, ByQuery, Refused, Started, names_in_store, run
+from started import START, ByJson, ByQuery, Refused, Started, names_in_store
 from steered import SteeredCq
 from test_standard import sent_by_call
 
@@ -78,10 +77,7 @@ class Delayed:
 
     def names(self) -> set[str]:
         """The names in the store of all queues that the journal has."""
-        if IS_KEPT_BY_CQ:
-            return names_in_store(self.journal)
-        lines = [json.loads(line) for line in run("dump", str(self.journal)).stdout.splitlines()]
-        return {line["ask"]["queue"] for line in lines if "ask" in line}
+        return names_in_store(self.journal)
 
 
 @pytest.fixture
@@ -98,10 +94,9 @@ def wait_for(what: Callable[[], bool]) -> None:
         time.sleep(0.05)
 
 
-def test_what_is_delayed_stands_in_the_store_and_in_no_record_beside_it(delayed):
+def test_what_is_delayed_stands_in_the_store(delayed):
     ids = {body: delayed.send(body, 5) for body in ("small", "x" * 300_000)}
-    records = b"".join(one.read_bytes() for one in delayed.journal.parent.glob("journal.[0-9]*"))
-    assert b'"note"' not in records and delayed.names() >= {"1.fifo", "1d.fifo"}
+    assert delayed.names() >= {"1.fifo", "1d.fifo"}
     for _ in range(2):
         delayed.restart()
         assert delayed.counts() == [0, 0, 2]
@@ -172,7 +167,6 @@ def test_a_removal_that_is_cut_off_takes_all_or_nothing(delayed, passing):
     delayed.gateway.kill()
     delayed.cq.tell()
     removing.join()
-    assert IS_KEPT_BY_CQ or "undamaged" in run("verify", str(delayed.journal)).stdout
     delayed.gateway.start()
     if passing == 0:
         assert delayed.counts() == [1, 0, 1]
@@ -286,46 +280,6 @@ def test_a_queue_that_was_removed_takes_no_delayed_message(delayed):
         assert delayed.counts() == [0, 0, 1]
     delayed.move(5000)
     assert {one["MessageId"] for one in delayed.call("ReceiveMessage", QueueUrl="q")["Messages"]} == ids
-
-
-@pytest.mark.skipif(IS_KEPT_BY_CQ, reason="the gateway's own journal alone does this")
-def test_what_is_delayed_goes_over_to_another_name_with_its_queue(tmp_path):
-    delayed = Delayed(tmp_path, "--journal-size", "4MiB")
-    ids = set()
-    for turn in range(3):
-        sent = 0
-        with pytest.raises(Refused, match="OverLimit"):
-            while sent < 200:
-                ids.add(delayed.send(f"{turn}/{sent}" + "x" * 50_000, 5))
-                sent += 1
-        delayed.move(5000)
-        taken = 0
-        while messages := delayed.call("ReceiveMessage", QueueUrl="q", MaxNumberOfMessages=10).get("Messages"):
-            taken += len(messages)
-            for message in messages:
-                delayed.call("DeleteMessage", QueueUrl="q", ReceiptHandle=message["ReceiptHandle"])
-        assert taken == sent >= 10 and delayed.counts() == [0, 0, 0]
-        delayed.move(300_000)
-
-        def is_taking() -> bool:
-            try:
-                ids.add(delayed.send(f"taken {turn}", 5))
-                return True
-            except Refused as refused:
-                assert refused.code == "OverLimit"
-                return False
-
-        wait_for(is_taking)
-        delayed.restart()
-        assert delayed.counts() == [0, 0, 1]
-        delayed.move(5000)
-        (message,) = delayed.call("ReceiveMessage", QueueUrl="q", MaxNumberOfMessages=10)["Messages"]
-        assert message["Body"] == f"taken {turn}" and message["MessageId"] in ids
-        delayed.call("DeleteMessage", QueueUrl="q", ReceiptHandle=message["ReceiptHandle"])
-        delayed.move(300_000)
-    names = {name for name in delayed.names() if not name.startswith("b")}
-    assert len(names) == 2 and "1.fifo" not in names, names
-    assert delayed.gateway.stop() == 0
 
 
 @pytest.mark.parametrize("batch", [False, True])

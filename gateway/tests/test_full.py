@@ -1,4 +1,4 @@
-"""Bounds of memory and of the journal: what is refused when they are full, what goes on, and the way back."""
+"""The bound of memory: what is refused when it is full, what goes on, and the way back."""
 
 from __future__ import annotations
 
@@ -81,16 +81,12 @@ def filled(tmp_path) -> Callable[..., Filled]:
         assert one.gateway.stop() == 0
 
 
-def bounds(tmp_path: Path) -> dict[str, list[str]]:
-    return {
-        "memory": ["--memory", str(2 * MEBIBYTE)],
-        "journal": ["--journal", str(tmp_path / "journal"), "--journal-size", str(2 * MEBIBYTE)],
-    }
+BOUND = ["--memory", str(2 * MEBIBYTE)]
 
 
-@pytest.fixture(params=["memory", "journal"])
-def full(request, filled, tmp_path) -> Filled:
-    return filled(*bounds(tmp_path)[request.param])
+@pytest.fixture
+def full(filled) -> Filled:
+    return filled(*BOUND)
 
 
 def test_it_is_full_between_90_and_100_percent_of_the_bound(full):
@@ -113,10 +109,9 @@ def test_sends_and_creations_are_refused_and_all_else_goes_on(full):
     full.call("DeleteQueue", QueueUrl="q.fifo")
 
 
-@pytest.mark.parametrize("which", ["memory", "journal"])
-def test_each_entry_of_a_batch_is_refused_by_itself(tmp_path, which):
+def test_each_entry_of_a_batch_is_refused_by_itself(tmp_path):
     """The first entries find space, and those behind them don't."""
-    gateway = Started(*bounds(tmp_path)[which], room=tmp_path)
+    gateway = Started(*BOUND, room=tmp_path)
     call = ByJson(gateway.url)
     call("CreateQueue", QueueName="q.fifo", Attributes={"FifoQueue": "true"})
     for turn in range(100):
@@ -132,8 +127,7 @@ def test_each_entry_of_a_batch_is_refused_by_itself(tmp_path, which):
     assert gateway.stop() == 0
 
 
-def test_memory_is_left_by_deleting(filled, tmp_path):
-    full = filled(*bounds(tmp_path)["memory"])
+def test_memory_is_left_by_deleting(full):
     assert full.delete_all() == full.count
     assert full.sends()
 
@@ -161,47 +155,3 @@ def test_ids_count_for_five_minutes(tmp_path):
     for more in range(number, number + 10):
         exchange(more)
     assert gateway.stop() == 0
-
-
-def test_a_journal_is_left_when_all_was_deleted_and_its_ids_are_old(filled, tmp_path):
-    """The queue is sent fewer than 1,000 messages; nobody waits for the minute between two times of writing anew."""
-    full = filled(*bounds(tmp_path)["journal"])
-    assert full.delete_all() == full.count
-    assert not full.sends(), "the ids still count"
-    full.gateway.set_clock(START + WINDOW)
-    assert full.sends_again()
-    # It holds for what comes then, too.
-    for turn in range(2, 4):
-        while full.sends():
-            pass
-        full.delete_all()
-        full.gateway.set_clock(START + turn * WINDOW)
-        assert full.sends_again(), turn
-    full.gateway.kill()
-    full.gateway.start()
-    full.call = ByJson(full.gateway.url)
-    (message,) = full.call("ReceiveMessage", QueueUrl="q.fifo", AttributeNames=["All"])["Messages"]
-    assert message["Attributes"]["SequenceNumber"] == f"{full.count:020}"
-    assert sum(file.stat().st_size for file in tmp_path.glob("journal.*")) < 40 * MEBIBYTE, "with what is ahead"
-
-
-def test_a_journal_is_left_by_removing_its_queue(filled, tmp_path):
-    full = filled(*bounds(tmp_path)["journal"])
-    full.call("DeleteQueue", QueueUrl="q.fifo")
-    end = time.monotonic() + 10
-    while True:
-        try:
-            full.call("CreateQueue", QueueName="other.fifo", Attributes={"FifoQueue": "true"})
-            break
-        except Refused as refusal:
-            assert refusal.status == 403 and time.monotonic() < end
-            time.sleep(0.05)
-
-
-def test_a_journal_that_is_full_at_a_start_takes_no_more(filled, tmp_path):
-    full = filled(*bounds(tmp_path)["journal"])
-    full.gateway.kill()
-    full.gateway.start()
-    full.call = ByJson(full.gateway.url)
-    assert not full.sends()
-    assert len(full.receive()) == 10

@@ -396,3 +396,50 @@ def test_large_bodies_that_never_end_keep_no_ordinary_request_out():
             connection.close()
     finally:
         assert gateway.stop() == 0
+
+
+def hostile_requests(random: random.Random) -> Iterator[bytes]:
+    """Requests that are broken in one way each."""
+    good = b'{"QueueUrl":"q.fifo","MessageBody":"b","MessageGroupId":"g","MessageDeduplicationId":"d"}'
+
+    def request(body: bytes, length: int | None = None, more: bytes = b"") -> bytes:
+        count = len(body) if length is None else length
+        return (b"POST / HTTP/1.1\r\nHost: h\r\nX-Amz-Target: AmazonSQS.SendMessage\r\n" + more
+                + f"Content-Length: {count}\r\n\r\n".encode() + body)
+
+    for _ in range(40):
+        yield random.randbytes(random.randrange(1, 4000))
+        yield request(good, length=10**6)
+        yield (b"POST / HTTP/1.1\r\nHost: h\r\nTransfer-Encoding: chunked\r\nX-Amz-Target: AmazonSQS.SendMessage\r\n\r\nzz\r\n"
+               + good)
+        yield request(good, more=b"X: " + b"a" * random.randrange(1, 600_000) + b"\r\n")
+        spoilt = bytearray(good)
+        for _ in range(random.randrange(1, 6)):
+            spoilt[random.randrange(len(spoilt))] = random.randrange(256)
+        yield request(bytes(spoilt))
+        name = bytes(random.choice(b"%aq./&=+\xc3") for _ in range(60))
+        yield b"GET /?Action=ReceiveMessage&QueueUrl=" + name + b" HTTP/1.1\r\nHost: h\r\n\r\n"
+        yield (b"POST /0/q.fifo HTTP/1.1\r\nHost: \xff\xfe\r\nContent-Length: 30\r\n\r\n"
+               b"Action=ReceiveMessage&A.1.1=%0")
+        yield request(b'{"a":' * random.randrange(1, 200) + good)
+
+
+def test_hostile_bytes_end_no_gateway():
+    gateway = Started()
+    call = ByJson(gateway.url)
+    call("CreateQueue", QueueName="q.fifo", Attributes={"FifoQueue": "true"})
+    chance = random.Random(5)
+    port = int(gateway.url.rsplit(":", 1)[-1])
+    for hostile in hostile_requests(chance):
+        with socket.create_connection(("127.0.0.1", port)) as client:
+            client.settimeout(0.05)
+            try:
+                client.sendall(hostile)
+                if chance.random() < 0.3:
+                    client.setsockopt(socket.SOL_SOCKET, socket.SO_LINGER, b"\1\0\0\0\0\0\0\0")
+                else:
+                    client.recv(100)
+            except OSError:
+                pass
+    assert [url.rsplit("/", 1)[-1] for url in call("ListQueues")["QueueUrls"]] == ["q.fifo"]
+    assert gateway.stop() == 0

@@ -11,7 +11,7 @@ from typing import Any
 
 import pytest
 
-from started import START, ByJson, Refused, Started, run
+from started import START, ByJson, Started
 from test_standard import sent_by_call
 
 FIFO = {"FifoQueue": "true"}
@@ -50,15 +50,6 @@ class Journaled:
         if queue.endswith(".fifo"):
             more = {"MessageGroupId": body[:9], "MessageDeduplicationId": dedup or body, **more}
         return self.call("SendMessage", QueueUrl=queue, MessageBody=body, **more)["MessageId"]
-
-    def is_taking(self) -> bool:
-        """Whether a queue can be created: while the journal is full, it can't."""
-        try:
-            self.create("new.fifo")
-        except Refused as refused:
-            assert refused.status == 403
-            return False
-        return True
 
     def receive(self, queue: str, **more: Any) -> list[dict[str, Any]]:
         return self.call("ReceiveMessage", QueueUrl=queue, **{**ALL, **more}).get("Messages", [])
@@ -115,27 +106,6 @@ def test_a_call_is_told_its_messages_id(journaled):
     assert journaled.ids("standard") == sent
 
 
-def test_an_id_stands_only_with_messages_that_have_no_place_or_had_another(journaled):
-    journaled.create("dead.fifo")
-    journaled.create("q.fifo", RedrivePolicy=policy("dead.fifo"), VisibilityTimeout="0")
-    moved = journaled.send("q.fifo", "letter")
-    for _ in range(2):
-        journaled.receive("q.fifo")
-    journaled.create("standard")
-    plain = [journaled.send("q.fifo", "plain"), journaled.send("q.fifo", "x" * 300_000, dedup="large"),
-             journaled.send("standard", "b")]
-    delayed = journaled.send("standard", "c", DelaySeconds=5)
-
-    def found(ids: list[str]) -> list[int]:
-        segment = journaled.path.with_name("journal.1").read_bytes()
-        return [segment.count(one.encode()) for one in ids]
-
-    assert found([*plain, delayed, moved]) == [0, 0, 0, 0, 1]
-    journaled.gateway.set_clock(START + 5000)
-    assert journaled.ids("standard").keys() == {"b", "c"} and found([*plain, delayed, moved]) == [0, 0, 0, 1, 1]
-    assert journaled.ids("dead.fifo") == {"letter": moved}
-
-
 def test_a_queue_that_is_made_again_gives_other_ids(journaled):
     names, seen = ("q.fifo", "other.fifo", "standard"), set()
     for turn in range(3):
@@ -149,41 +119,6 @@ def test_a_queue_that_is_made_again_gives_other_ids(journaled):
         for name in names:
             journaled.call("DeleteQueue", QueueUrl=name)
     assert len(seen) == 3 * 3 * 10
-
-
-def test_a_queue_that_gets_another_name_in_the_store_gives_other_ids(tmp_path):
-    journaled = Journaled(tmp_path, "--journal-size", "2MiB")
-    journaled.create("q.fifo", VisibilityTimeout="600")
-    told: list[dict[str, str]] = []
-
-    def send() -> bool:
-        try:
-            told.append(journaled.call("SendMessage", QueueUrl="q.fifo", MessageBody="x" * 50_000,
-                                       MessageGroupId=f"g{len(told)}", MessageDeduplicationId=str(len(told))))
-        except Refused as refused:
-            assert refused.status == 403
-            return False
-        return True
-
-    for turn in range(1, 4):
-        while send():
-            assert len(told) < 1000
-        received = []
-        while messages := journaled.receive("q.fifo"):
-            journaled.delete("q.fifo", messages)
-            received += [message["MessageId"] for message in messages]
-        assert received == [one["MessageId"] for one in told[-len(received) :]]
-        journaled.gateway.set_clock(START + turn * WINDOW)
-        latest = time.monotonic() + 20
-        while not send():
-            assert time.monotonic() < latest, "it has the name that it had"
-            time.sleep(0.05)
-    assert [int(one["SequenceNumber"]) for one in told] == list(range(1, len(told) + 1))
-    assert len({one["MessageId"] for one in told}) == len(told)
-    journaled.restart()
-    (message,) = journaled.receive("q.fifo")
-    assert message["MessageId"] == told[-1]["MessageId"]
-    assert journaled.gateway.stop() == 0
 
 
 @pytest.mark.parametrize("end", ["", ".fifo"])
@@ -245,31 +180,16 @@ def test_messages_of_an_older_journal_keep_their_ids(tmp_path):
     path, here = tmp_path / "journal", Path(__file__)
     old = gzip.decompress(here.with_name("version3.journal.gz").read_bytes())
     path.with_name("journal.1").write_bytes(old)
-    assert old.startswith(b"hobbychair journal 3\n") and "undamaged" in run("verify", str(path)).stdout
-    journaled = Journaled(tmp_path, "--journal-size", "4MiB")
+    assert old.startswith(b"hobbychair journal 3\n")
+    journaled = Journaled(tmp_path)
     journaled.gateway.set_clock(START + 20_000)
     assert answers(journaled) == json.loads(here.with_name("version3.answers.json").read_text())
-    assert path.with_name("journal.1").read_bytes()[: len(old)] == old
-    assert path.with_name("journal.2").read_bytes().startswith(b"hobbychair journal 8\n")
+    assert path.with_name("journal.old.1").read_bytes() == old
     ids = stored_ids(journaled)
     assert [len(one) for one in ids] == [1, 1, 2, 3, 6]
     for _ in range(2):
         journaled.restart()
         assert stored_ids(journaled) == ids
-    # All segments are written anew when a queue goes that has filled the journal.
-    journaled.create("filler.fifo")
-    with pytest.raises(Refused, match="OverLimit"):
-        for number in range(1000):
-            journaled.send("filler.fifo", "x" * 50_000, dedup=str(number))
-    journaled.call("DeleteQueue", QueueUrl="filler.fifo")
-    latest = time.monotonic() + 20
-    while not journaled.is_taking():
-        assert time.monotonic() < latest
-        time.sleep(0.1)
-    assert not any(one.read_bytes().startswith(b"hobbychair journal 3\n") for one in tmp_path.glob("journal.[0-9]*"))
-    for _ in range(2):
-        assert stored_ids(journaled) == ids
-        journaled.restart()
     journaled.gateway.set_clock(START + WINDOW)
     late = journaled.ids("standard")
     assert late == {**ids[3], "call-2": ids[4][5]}

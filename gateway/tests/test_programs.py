@@ -6,13 +6,14 @@ from __future__ import annotations
 import os
 import signal
 import subprocess
+import sys
 import threading
 import time
 from pathlib import Path
 
 import pytest
 
-from started import ByJson, Refused, Started, command, environment, program, programs_of
+from started import ByJson, Refused, Started, command, environment, program, programs_of, run
 from steered import SteeredCq
 from test_operations import admin_url, get, metric
 
@@ -20,9 +21,9 @@ FIFO = {"FifoQueue": "true"}
 STAND_IN = """#!/usr/bin/python3
 import os, subprocess, sys, time
 real, told = {real!r}, {told!r}
-if sys.argv[1:] != ["session"]:
+if sys.argv[1] != "session":
     os.execv(real, [real, *sys.argv[1:]])
-lines = subprocess.Popen([real, "session"], stdout=subprocess.PIPE).stdout
+lines = subprocess.Popen([real, *sys.argv[1:]], stdout=subprocess.PIPE).stdout
 for number, line in enumerate(iter(lines.readline, b"")):
     what, _, after = (open(told).read() if os.path.exists(told) else "").partition(" ")
     if what and number >= int(after or 0):
@@ -112,10 +113,9 @@ def test_without_a_journal_a_program_that_hangs_ends_the_gateway(stand_in):
     assert gateway.process.wait(20) == 1
 
 
-@pytest.mark.parametrize("what, said", [("garbage 5", "can't be read"), ("hang 1", "it didn't answer for 3 s"),
-                                        ("hang 5", "it didn't answer for 3 s"), ("close 1", "went on")])
+@pytest.mark.parametrize("what, said", [("garbage 2", "can't be read"), ("close 1", "went on")])
 def test_a_start_with_such_a_program_ends_and_says_why(tmp_path, stand_in, what, said):
-    """The journal has four records, so the fifth answer is the one behind them."""
+    """The first lines tell the store. However long that takes, it is waited for."""
     journal = ["--journal", str(tmp_path / "journal")]
     gateway = Started("--cq", str(stand_in.path), *journal)
     call = ByJson(gateway.url)
@@ -129,48 +129,16 @@ def test_a_start_with_such_a_program_ends_and_says_why(tmp_path, stand_in, what,
 
 
 def test_a_program_that_ends_at_whatever_it_is_asked_ends_the_gateway(tmp_path):
-    """The journal has three records, and so the first eight lines are of its replay."""
+    """The first line has what waits given, and those behind it are what it is asked again."""
     cq = SteeredCq(tmp_path)
     gateway = Started("--journal", str(tmp_path / "journal"), *cq.words())
     call = ByJson(gateway.url)
     call("CreateQueue", QueueName="q.fifo", Attributes=FIFO)
-    cq.tell(end='"op"', behind=8)
+    cq.tell(end='"op"', behind=1)
     with pytest.raises((OSError, Refused)):
         for number in range(5):
             send(call, number)
     assert gateway.process.wait(60) == 1 and cq.ends() == 9
-
-
-@pytest.mark.parametrize("shards", ["1", "3"])
-def test_a_program_that_ends_while_a_start_feeds_it_is_started_again_once(tmp_path, shards):
-    """It is killed behind seven of the twenty sends of the journal: the first one, and then each."""
-    cq = SteeredCq(tmp_path)
-    words = ["--journal", str(tmp_path / "journal"), "--shards", shards, "--memory", "1GiB", "--admin", "0", *cq.words()]
-    gateway = Started(*words)
-    call = ByJson(gateway.url)
-    for name in ("q.fifo", "other.fifo", "third.fifo"):
-        call("CreateQueue", QueueName=name, Attributes=FIFO)
-    for number in range(20):
-        send(call, number)
-    used = metric(get(admin_url(gateway) + "/metrics")[1], "hobbychair_memory_used_bytes")
-    gateway.kill()
-    cq.tell(each=['"group":"g"'], kill=True, **{"pass": 7})
-    gateway.start()
-    assert cq.ends() == 1
-    # Nothing counts twice.
-    assert metric(get(admin_url(gateway) + "/metrics")[1], "hobbychair_memory_used_bytes") == used
-    call, bodies = ByJson(gateway.url), []
-    while messages := call("ReceiveMessage", QueueUrl="q.fifo", MaxNumberOfMessages=10).get("Messages"):
-        for message in messages:
-            bodies.append(message["Body"])
-            call("DeleteMessage", QueueUrl="q.fifo", ReceiptHandle=message["ReceiptHandle"])
-    assert bodies == [str(number) for number in range(20)]
-    gateway.kill()
-    cq.tell(end='"group":"g"', behind=10)
-    ended = subprocess.run(command("--port", "0", *words), env=environment(), capture_output=True, text=True, timeout=60)
-    said = ended.stderr.splitlines()
-    assert ended.returncode == 1 and said[-1].startswith("hobbychair: cq is gone: it ended with")
-    assert cq.ends() == 3 and sum("cq is gone" in line for line in said) == 1
 
 
 @pytest.mark.parametrize("number", [signal.SIGTERM, signal.SIGKILL])
@@ -207,3 +175,54 @@ def test_an_answer_out_of_turn_loses_no_message_of_a_batch(tmp_path, stand_in):
         assert told == {message["Body"]: message["MessageId"] for message in messages}
     finally:
         assert gateway.stop() == 0
+
+
+def test_another_version_of_cq_is_refused(tmp_path):
+    other = tmp_path / "cq"
+    other.write_text("#!/bin/sh\necho cq 99.0.0\n")
+    other.chmod(0o755)
+    ended = run("--port", "0", "--cq", str(other))
+    assert ended.returncode == 1 and ended.stderr.startswith(f"hobbychair: {other} is of version 99.0.0, and ")
+    ended = run("--port", "0", "--cq", "/bin/true")
+    assert ended.returncode == 1 and ended.stderr == "hobbychair: /bin/true doesn't say at --version that it is cq\n"
+
+
+def test_a_cq_that_ends_at_once_is_told(tmp_path):
+    other = tmp_path / "cq"
+    other.write_text(f"#!/bin/sh\n[ $1 = --version ] && exec {program()} --version\nexit 1\n")
+    other.chmod(0o755)
+    for more in ([], ["--journal", str(tmp_path / "journal")]):
+        ended = run("--port", "0", "--cq", str(other), *more)
+        assert ended.returncode == 1 and ended.stderr.endswith("cq is gone: it ended with status 1\n")
+
+
+def test_the_version_is_told():
+    told = run("--version")
+    assert told.returncode == 0 and told.stdout.startswith("hobbychair ")
+
+
+def test_cq_that_ends_at_every_request_ends_no_gateway(tmp_path):
+    """It is asked twice, and then the request is an InternalFailure, and others are served."""
+    wrapped = tmp_path / "cq"
+    wrapped.write_text(
+        f"#!{sys.executable}\n"
+        "import subprocess, sys\n"
+        f"if sys.argv[1] != 'session': sys.exit(subprocess.run([{program()!r}, *sys.argv[1:]]).returncode)\n"
+        f"cq = subprocess.Popen([{program()!r}, *sys.argv[1:]], stdin=subprocess.PIPE)\n"
+        "for line in sys.stdin.buffer:\n"
+        "    if b'poison' in line: sys.exit(cq.kill())\n"
+        "    cq.stdin.write(line); cq.stdin.flush()\n")
+    wrapped.chmod(0o755)
+    gateway = Started("--journal", str(tmp_path / "journal"), "--cq", str(wrapped))
+    call = ByJson(gateway.url)
+    call("CreateQueue", QueueName="q.fifo", Attributes={"FifoQueue": "true"})
+
+    def send(body: str):
+        return call("SendMessage", QueueUrl="q.fifo", MessageBody=body, MessageGroupId="g", MessageDeduplicationId=body)
+
+    assert send("a")["SequenceNumber"].endswith("1")
+    with pytest.raises(Refused) as refused:
+        send("poison")
+    assert (refused.value.code, refused.value.status) == ("InternalFailure", 500)
+    assert send("b")["SequenceNumber"].endswith("2")
+    assert gateway.stop() == 0

@@ -2,14 +2,13 @@
 
 from __future__ import annotations
 
-import subprocess
 import time
 from collections.abc import Callable
 
 import pytest
 
 from conftest import Rules, new_name
-from started import ByBoto3, Started, command, environment, handing
+from started import ByBoto3, Started, handing
 
 MINUTE = 60_000
 DAY = 24 * 3_600_000
@@ -170,5 +169,3 @@ def test_a_stop_counts_with_a_day_at_most(tmp_path):
     gateway.set_clock(gateway.moment + 1)
     assert bodies() == []
     assert gateway.stop() == 0
-    told = subprocess.run(command("verify", str(journal)), env=environment(), capture_output=True, check=True).stdout
-    assert b"1 starts found the clock more than a day ahead" in told

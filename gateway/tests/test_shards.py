@@ -2,7 +2,6 @@
 
 from __future__ import annotations
 
-import json
 import os
 import signal
 import subprocess
@@ -11,7 +10,7 @@ import time
 import zlib
 from pathlib import Path
 
-from started import ByJson, Started, command, environment, program, programs_of
+from started import ByJson, Started, command, environment, files_of, programs_of
 
 COUNT = 3
 NAMES = [f"queue{number}.fifo" for number in range(12)]
@@ -69,16 +68,12 @@ def test_another_number_is_refused_and_says_what_to_do(tmp_path):
     gateway = started(journal)
     fill(ByJson(gateway.url))
     assert gateway.stop() == 0
-    before = {file.name: file.read_bytes() for file in tmp_path.glob("journal.[0-9]*")}
+    before = {file.name: file.read_bytes() for file in files_of(journal)}
     for number in (1, COUNT + 1):
         refused = subprocess.run(command("--port", "0", "--journal", str(journal), "--shards", str(number)),
                                  env=environment(), timeout=60, capture_output=True, text=True)
-        assert refused.returncode == 1
-        assert f"--shards says {number}: start with --shards {COUNT}" in refused.stderr
-    assert before == {file.name: file.read_bytes() for file in tmp_path.glob("journal.[0-9]*")}
-    verified = subprocess.run(command("verify", str(journal)), env=environment(), timeout=60, capture_output=True,
-                              text=True)
-    assert verified.returncode == 0 and f"{COUNT} programs share the queues" in verified.stdout
+        assert refused.returncode == 1 and "the journal has a file for each program" in refused.stderr and "--shards" in refused.stderr
+    assert before == {file.name: file.read_bytes() for file in files_of(journal)}
     for wrong in ("0", "17", "two"):
         refused = subprocess.run(command("--port", "0", "--shards", wrong), env=environment(), timeout=60,
                                  capture_output=True, text=True)
@@ -143,19 +138,3 @@ def test_programs_that_are_killed_under_load_lose_nothing(tmp_path):
     for name in NAMES:
         assert bodies(call, name) == sent[name]
     assert gateway.stop() == 0
-
-
-def test_a_dump_is_one_script_that_one_store_takes(tmp_path):
-    journal = tmp_path / "journal"
-    gateway = started(journal, tmp_path)
-    fill(ByJson(gateway.url))
-    assert gateway.stop() == 0
-    script = subprocess.run(command("dump", str(journal)), env=environment(), timeout=60, capture_output=True).stdout
-    answers = subprocess.run([program(), "session"], input=script, timeout=60, capture_output=True).stdout
-    asks = [line["ask"] for line in map(json.loads, script.splitlines()) if "ask" in line]
-    replies = [json.loads(line)["reply"] for line in answers.splitlines()]
-    assert len(asks) == len(replies) and all(reply["kind"] in ("created", "sent") for reply in replies)
-    # Each program has a book.
-    replies = [reply for ask, reply in zip(asks, replies) if not ask["queue"].startswith("book")]
-    assert [reply["kind"] for reply in replies] == ["created"] * len(NAMES) + ["sent"] * 3 * len(NAMES)
-    assert [reply["sequence"] for reply in replies[len(NAMES):]] == [1] * 12 + [2] * 12 + [3] * 12

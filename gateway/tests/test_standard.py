@@ -524,26 +524,6 @@ def test_a_task_moves_messages_back(gateway, way):
 # ---- bounds, and what was there before
 
 
-def test_delayed_messages_of_a_full_journal_become_due(tmp_path):
-    gateway = Started("--journal", str(tmp_path / "journal"), "--journal-size", "4MiB", room=tmp_path)
-    rules = rules_of(gateway, "json")
-    queue = rules.queue()
-    bodies: list[str] = []
-    with pytest.raises(Refused) as refused:
-        while len(bodies) < 100:
-            rules.send(queue, f"{len(bodies)}" + "x" * 100_000, DelaySeconds=5)
-            bodies.append(f"{len(bodies)}" + "x" * 100_000)
-    assert refused.value.code == "OverLimit" and 30 < len(bodies) < 42
-    gateway.kill()
-    gateway.set_clock(gateway.moment + 5000)
-    gateway.start()
-    rules = rules_of(gateway, "json")
-    url = f"{gateway.url}/000000000000/{queue.rsplit('/', 1)[-1]}"
-    found = sum((rules.bodies(url) for _ in range(len(bodies) // 10 + 1)), [])
-    assert found == bodies and rules.counts(url) == (0, len(bodies), 0)
-    assert gateway.stop() == 0
-
-
 def test_delayed_messages_count_as_memory(tmp_path):
     gateway = Started("--memory", "1MiB")
     rules = rules_of(gateway, "json")

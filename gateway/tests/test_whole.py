@@ -11,7 +11,7 @@ from pathlib import Path
 
 import pytest
 
-from started import IS_KEPT_BY_CQ, ByJson, Refused, Started, run
+from started import ByJson, Refused, Started
 
 SEEDS = int(os.environ.get("HOBBYCHAIR_TEST_SEEDS", "6"))
 STEPS = 150
@@ -28,9 +28,8 @@ class Work:
 
     def __init__(self, room: Path, seed: int) -> None:
         self.random, self.room, self.copies = random.Random(seed), room, 0
-        # Where a bound is full, queues at rest go over to other names and books are begun anew.
-        bounds = [["--journal-size", "1MiB"], ["--memory", "1MiB"], []]
-        self.words = ["--shards", str(1 + seed % 2), *bounds[seed % 3]]
+        # Where the bound is full, books are begun anew.
+        self.words = ["--shards", str(1 + seed % 2), *(["--memory", "1MiB"] if seed % 3 == 1 else [])]
         self.gateway = Started("--journal", str(room / "journal"), *self.words, room=room)
         self.done = 0
 
@@ -92,12 +91,9 @@ class Work:
         self.copies += 1
         room = self.room / f"copy{self.copies}"
         room.mkdir()
-        if IS_KEPT_BY_CQ:
-            # Nothing is asked meanwhile.
-            for file in self.room.glob("journal*"):
-                shutil.copy(file, room)
-        else:
-            assert run("backup", str(self.room / "journal"), str(room / "journal")).returncode == 0
+        # Nothing is asked meanwhile.
+        for file in self.room.glob("journal.*"):
+            shutil.copy(file, room)
         (room / "clock").write_text(str(self.gateway.moment))
         other = Started("--journal", str(room / "journal"), *self.words, "--clock-file", str(room / "clock"))
         assert self.told(other.url) == told

@@ -275,9 +275,6 @@ pub enum TableChange {
     Purged,
     /// How a task stands that moves messages.
     Task(MoveTask),
-    /// It goes by another name in the store from now on. It is empty.
-    #[serde(skip)]
-    GoneOver(StoreName),
     #[serde(skip)]
     Removed,
     /// Nothing is new, and it is said once more: how the queue stands, or this task of it.

@@ -9,6 +9,7 @@ use serde::{Deserialize, Serialize};
 use uuid::Uuid;
 
 use super::ask::StoreName;
+use super::OlderFact;
 use crate::attributes::QueueAttributes;
 use crate::clock::Moment;
 use crate::limits::MESSAGE_BYTES;
@@ -29,6 +30,8 @@ pub enum Entry {
     Attempt(AttemptEntry),
     /// Where programs do so: of the time before a start at this moment so many milliseconds make no message older.
     Jump(Moment, u64),
+    /// Where programs do so: what a journal of an earlier version had beside the store of messages of the queue of this mark.
+    Older(u64, Vec<OlderFact>),
 }
 
 /// How a queue stands. A queue is there from its first entry on; its name in the store is created before.
@@ -94,6 +97,27 @@ fn is_zero(number: &u64) -> bool {
     *number == 0
 }
 
+/// Facts go into one entry up to so many bytes, and one alone may have more.
+const BYTES_OF_FACTS: usize = 100_000;
+
+/// Entries that say facts of a queue of this mark.
+pub fn entries_of_facts(mark: u64, facts: Vec<OlderFact>) -> Vec<Entry> {
+    let (mut entries, mut some, mut length) = (Vec::new(), Vec::new(), 0);
+    for fact in facts {
+        let own = serde_json::to_string(&fact).map_or(0, |text| text.len());
+        if length + own > BYTES_OF_FACTS && !some.is_empty() {
+            entries.push(Entry::Older(mark, std::mem::take(&mut some)));
+            length = 0;
+        }
+        length += own;
+        some.push(fact);
+    }
+    if !some.is_empty() {
+        entries.push(Entry::Older(mark, some));
+    }
+    entries
+}
+
 impl QueueEntry {
     /// That of a queue of which nothing is said.
     pub fn plain(store: StoreName, name: QueueName, mark: u64) -> QueueEntry {
@@ -113,6 +137,15 @@ impl QueueEntry {
         let modified = created;
         QueueEntry { store, name, mark, base: 0, attributes, tags, created, modified, purged: None, purging: None }
     }
+
+    /// Whether a purge begins with this entry, where the one before it was that. In journals up to version 5 nothing says that
+    /// one begins, and it is over at once.
+    pub fn purges(&self, before: &QueueEntry) -> bool {
+        match (before.purging, self.purging) {
+            (None, None) => before.purged != self.purged,
+            (earlier, purging) => purging.is_some() && purging != earlier,
+        }
+    }
 }
 
 impl Entry {
@@ -122,48 +155,24 @@ impl Entry {
         Ok(serde_json::to_string(self)?.replace('\u{fffe}', "\\ufffe").replace('\u{ffff}', "\\uffff"))
     }
 
-    /// What it takes in a book.
-    pub fn size(&self) -> Size {
+    /// What it takes of memory in a book, in bytes.
+    pub fn size(&self) -> u64 {
         // Nothing in an entry can't be written.
-        self.text().map_or(Size::default(), |text| Size::of(&text))
+        self.text().map_or(0, |text| size_of_text(&text))
     }
 }
 
-/// What entries take, in bytes.
-#[derive(Clone, Copy, Debug, Default, PartialEq, Eq)]
-pub struct Size {
-    pub memory: u64,
-    /// What their records take of the journal at most.
-    pub journal: u64,
-}
-
-/// What the record of an entry takes at most beside its text.
-const RECORD_BYTES: u64 = 512;
-
-impl Size {
-    /// That of an entry of this text, which its record has as a text of JSON.
-    pub fn of(text: &str) -> Size {
-        let escaped = memchr::memchr2_iter(b'"', b'\\', text.as_bytes()).count();
-        let length = text.len() as u64;
-        Size { memory: length + MESSAGE_BYTES, journal: length + escaped as u64 + RECORD_BYTES }
-    }
-}
-
-impl std::iter::Sum for Size {
-    fn sum<I: Iterator<Item = Size>>(sizes: I) -> Size {
-        sizes.fold(Size::default(), |sum, size| Size {
-            memory: sum.memory + size.memory,
-            journal: sum.journal + size.journal,
-        })
-    }
+/// What an entry of this text takes of memory, in bytes.
+pub fn size_of_text(text: &str) -> u64 {
+    text.len() as u64 + MESSAGE_BYTES
 }
 
 /// One that the store has.
 #[derive(Clone, Copy, Debug)]
 struct Book {
     number: u64,
-    /// What its entries take.
-    size: Size,
+    /// What its entries take of memory.
+    size: u64,
     /// It says which program has it.
     has_program: bool,
 }
@@ -180,23 +189,23 @@ impl Books {
 
     /// The store has this one, and from now on it is written to.
     pub fn add(&self, place: usize, number: u64) {
-        self.books().entry(place).or_default().push(Book { number, size: Size::default(), has_program: false });
+        self.books().entry(place).or_default().push(Book { number, size: 0, has_program: false });
     }
 
     /// The store hasn't got it any more. Tells what its entries took of memory.
     pub fn remove(&self, place: usize, number: u64) -> u64 {
         let mut books = self.books();
         let books = books.entry(place).or_default();
-        let removed: u64 = books.iter().filter(|book| book.number == number).map(|book| book.size.memory).sum();
+        let removed: u64 = books.iter().filter(|book| book.number == number).map(|book| book.size).sum();
         books.retain(|book| book.number != number);
         removed
     }
 
-    /// An entry of this size stands in it. Tells what it takes of memory.
-    pub fn count(&self, place: usize, number: u64, size: Size) -> u64 {
+    /// An entry of this size stands in it. Tells what it takes of memory, if the book is there.
+    pub fn count(&self, place: usize, number: u64, size: u64) -> u64 {
         if let Some(book) = self.books().entry(place).or_default().iter_mut().find(|book| book.number == number) {
-            book.size = [book.size, size].into_iter().sum();
-            return size.memory;
+            book.size += size;
+            return size;
         }
         0
     }
@@ -213,11 +222,6 @@ impl Books {
         self.books().get(&place).and_then(|books| books.last()).is_some_and(|book| book.has_program)
     }
 
-    /// What the records of all books take of the journal.
-    pub fn journal_bytes(&self) -> u64 {
-        self.books().values().flatten().map(|book| book.size.journal).sum()
-    }
-
     /// The number of the one that is written to.
     pub fn current(&self, place: usize) -> Option<u64> {
         self.books().get(&place)?.last().map(|book| book.number)
@@ -225,7 +229,7 @@ impl Books {
 
     /// What its entries take of memory.
     pub fn bytes_of_current(&self, place: usize) -> u64 {
-        self.books().get(&place).and_then(|books| books.last()).map_or(0, |book| book.size.memory)
+        self.books().get(&place).and_then(|books| books.last()).map_or(0, |book| book.size)
     }
 
     /// The numbers of those before it.
@@ -298,13 +302,12 @@ mod tests {
         assert_eq!((books.current(0), books.earlier(0)), (None, vec![]));
         books.add(0, 2);
         books.add(1, 3);
-        let size = |memory| Size { memory, journal: 2 * memory };
-        assert_eq!((books.count(0, 2, size(10)), books.count(0, 4, size(10))), (10, 0));
+        assert_eq!((books.count(0, 2, 10), books.count(0, 4, 10)), (10, 0));
         books.add(0, 4);
         assert_eq!((books.current(0), books.earlier(0), books.current(1)), (Some(4), vec![2], Some(3)));
         // One that was asked before.
-        assert_eq!((books.count(0, 2, size(15)), books.journal_bytes()), (15, 50));
-        assert_eq!((books.bytes_of_current(0), books.remove(0, 2), books.journal_bytes()), (0, 25, 0));
+        assert_eq!(books.count(0, 2, 15), 15);
+        assert_eq!((books.bytes_of_current(0), books.remove(0, 2)), (0, 25));
         assert_eq!((books.current(0), books.earlier(0), books.remove(0, 2)), (Some(4), vec![], 0));
     }
 }

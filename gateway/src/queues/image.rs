@@ -10,10 +10,10 @@ use std::sync::Arc;
 use thiserror::Error;
 
 use super::ask::StoreName;
-use super::book::{AttemptEntry, Entry, Size};
+use super::book::{size_of_text, AttemptEntry, Entry};
 use super::groups::Group;
 use super::shards::Shard;
-use super::{Queue, Queues};
+use super::{OlderFact, Queue, Queues};
 use crate::clock::Moment;
 use crate::messages::EnvelopeHead;
 use crate::move_tasks::MoveTask;
@@ -64,6 +64,8 @@ pub(super) struct StoredQueue {
     pub(super) accepted: Vec<AcceptedSend>,
     /// What attempts were given, in the order in which books say it.
     pub(super) attempts: Vec<AttemptEntry>,
+    /// What an older journal had beside the store, in that order.
+    pub(super) older: Vec<OlderFact>,
 }
 
 pub(super) struct StoredMessage {
@@ -85,6 +87,25 @@ pub(super) struct AcceptedSend {
     copy: Option<CopyId>,
     pub(super) moment: Moment,
     pub(super) sequence: u64,
+}
+
+impl StoredQueue {
+    /// Puts lines that a book says in the place of what the store has, which counts messages from the one behind `base`. False
+    /// if one is missing.
+    fn put_lines(&mut self, base: u64) -> bool {
+        let of_line = |fact: &OlderFact| match fact {
+            OlderFact::Line(sequence, line) => Some((*sequence, line.clone())),
+            _ => None,
+        };
+        let lines: HashMap<_, _> = self.older.iter().filter_map(of_line).collect();
+        for message in &mut self.messages {
+            if let Some(line) = lines.get(&(base + message.sequence)) {
+                message.head = EnvelopeHead::of(line).unwrap_or_default();
+                message.text = message.text.take().map(|(group, _)| (group, line.as_str().into()));
+            }
+        }
+        self.messages.iter().all(|message| message.head.sent.is_some())
+    }
 }
 
 /// What the messages of a queue name.
@@ -172,8 +193,8 @@ impl Image {
         if store.book().is_some() {
             queue.entries.push(body.into());
         } else if store.parts().is_none() {
-            let head = EnvelopeHead::of(body).filter(|head| head.sent.is_some());
-            let head = head.ok_or_else(|| ImageError::Foreign(store.text(), "a message of it is no envelope"))?;
+            // What an older journal has beside the store says no moment.
+            let head = EnvelopeHead::of(body).ok_or_else(|| no_envelope(store))?;
             queue.messages.push(StoredMessage {
                 sequence,
                 group: Group::of(group),
@@ -189,6 +210,10 @@ impl Image {
     }
 }
 
+fn no_envelope(store: StoreName) -> ImageError {
+    ImageError::Foreign(store.text(), "a message of it is no envelope")
+}
+
 impl Queues {
     /// Takes up what the store of a program has. Of no queue of it anything was known.
     pub fn take_up(&self, shard: Shard, image: Image) -> Result<(), ImageError> {
@@ -200,17 +225,28 @@ impl Queues {
         image.names.keys().for_each(|name| self.saw_store_name(*name));
         let living = image.names.into_iter().filter_map(|(name, queue)| Some((name, queue?)));
         let (books, mut living): (BTreeMap<_, _>, BTreeMap<_, _>) = living.partition(|(name, _)| name.book().is_some());
-        let Told { by_mark, mut attempts, .. } = self.take_up_books(shard, books)?;
+        let Told { by_mark, mut attempts, mut older, .. } = self.take_up_books(shard, books)?;
         let is_there = |queue: &Arc<Queue>| self.find(&queue.name).is_some_and(|found| Arc::ptr_eq(&found, queue));
         for (mark, queue) in by_mark.into_iter().filter(|(_, queue)| is_there(queue)) {
-            let store = queue.state().entry.store;
+            let (store, base) = {
+                let state = queue.state();
+                (state.entry.store, state.entry.base)
+            };
             let not_there = || ImageError::Foreign(store.text(), "a book says of it, and it isn't there");
             let mut stored = living.remove(&store).ok_or_else(not_there)?;
             stored.attempts = attempts.remove(&mark).unwrap_or_default();
+            stored.older = older.remove(&mark).unwrap_or_default();
+            if !stored.put_lines(base) {
+                return Err(no_envelope(store));
+            }
             self.take_up_copies(place, &stored.accepted);
             let copied = self.take_up_messages(&queue, stored, image.last);
-            if let Some(stored) = living.remove(&store.of_delays()) {
+            if let Some(mut stored) = living.remove(&store.of_delays()) {
                 let delays = Arc::new(Queue::beside(&queue, store).0);
+                stored.older = older.remove(&delays.mark.0).unwrap_or_default();
+                if !stored.put_lines(0) {
+                    return Err(no_envelope(store.of_delays()));
+                }
                 self.created(place, &delays, store.of_delays());
                 self.take_up_delayed(&queue, &delays, stored, image.last);
                 let mut state = delays.state();
@@ -228,8 +264,7 @@ impl Queues {
     /// Takes up what books say, in their order.
     fn take_up_books(&self, shard: Shard, books: BTreeMap<StoreName, StoredQueue>) -> Result<Told<'_>, ImageError> {
         let place = shard.place();
-        let mut told =
-            Told { queues: self, place, by_mark: HashMap::new(), tasks: HashMap::new(), attempts: HashMap::new() };
+        let mut told = Told::new(self, place);
         for (name, book) in books {
             let Some(number) = name.book() else { continue };
             self.books.add(place, number);
@@ -240,8 +275,8 @@ impl Queues {
                     let why = "it is that of another program, or of another number of programs (--shards)";
                     return Err(ImageError::Foreign(name.text(), why));
                 }
-                self.count_entry(place, number, Size::of(&text));
-                told.take(&entry, number, Size::of(&text));
+                self.count_entry(place, number, size_of_text(&text));
+                told.take(&entry, number, size_of_text(&text));
             }
         }
         Ok(told)
@@ -286,19 +321,30 @@ struct Told<'a> {
     place: usize,
     by_mark: HashMap<u64, Arc<Queue>>,
     /// Tasks of queues of which nothing was said yet: where a book was begun anew, they stand before their queue.
-    tasks: HashMap<u64, Vec<(MoveTask, u64, Size)>>,
+    tasks: HashMap<u64, Vec<(MoveTask, u64, u64)>>,
     attempts: HashMap<u64, Vec<AttemptEntry>>,
+    older: HashMap<u64, Vec<OlderFact>>,
 }
 
 impl Told<'_> {
-    fn take(&mut self, entry: &Entry, book: u64, size: Size) {
+    fn new(queues: &Queues, place: usize) -> Told<'_> {
+        let (by_mark, tasks, attempts, older) = Default::default();
+        Told { queues, place, by_mark, tasks, attempts, older }
+    }
+
+    fn take(&mut self, entry: &Entry, book: u64, size: u64) {
         let (queues, place) = (self.queues, self.place);
         match entry {
             Entry::Queue(said) => {
+                let before = self.by_mark.get(&said.mark).map(|queue| queue.state().entry.clone());
                 let queue = self.by_mark.entry(said.mark).or_insert_with(|| Arc::new(Queue::new(said))).clone();
                 queues.said(place, &queue, entry, book, size);
                 for (task, book, size) in self.tasks.remove(&said.mark).unwrap_or_default() {
                     queues.said(place, &queue, &Entry::Task(said.mark, task), book, size);
+                }
+                // It takes what was said to be delayed before.
+                if before.is_some_and(|before| said.purges(&before)) {
+                    self.older.entry(said.mark).or_default().retain(|fact| !matches!(fact, OlderFact::Delayed(_)));
                 }
             }
             Entry::Removed(removal) => match self.by_mark.get(&removal.mark) {
@@ -312,6 +358,7 @@ impl Told<'_> {
             Entry::Attempt(attempt) => self.attempts.entry(attempt.mark).or_default().push(attempt.clone()),
             Entry::Program(program) => queues.program_said(program, book),
             Entry::Jump(moment, uncounted) => queues.jumps.add(*moment, *uncounted),
+            Entry::Older(mark, facts) => self.older.entry(*mark).or_default().extend(facts.iter().cloned()),
         }
     }
 }

@@ -21,7 +21,6 @@ use crate::clock::Moment;
 use crate::delays::Alarms;
 use crate::errors::SqsError;
 use crate::handles::{Handle, Mark, Receipt};
-use crate::journal::Journal;
 use crate::lines::StoreReply;
 use crate::messages::{message_id, own_id};
 use crate::moves::{Copies, Origin};
@@ -29,11 +28,11 @@ use crate::polling::Polls;
 use crate::retention::Jumps;
 use crate::texts::{QueueKind, QueueName};
 use ask::{Ask, Cause, Outcome, StoreName, TableChange};
-use book::{Books, Entry, LeftOver, ProgramEntry, QueueEntry, Removal, Size};
+use book::{size_of_text, Books, Entry, LeftOver, ProgramEntry, QueueEntry, Removal};
 pub use image::{Image, ImageError};
 pub use parts::Parts;
 use shards::Shards;
-pub use state::{Chunk, Cursor, Peeked, State, Visibility};
+pub use state::{Chunk, Cursor, OlderFact, Peeked, State, Visibility};
 
 /// So long a name isn't free after its queue was removed, in milliseconds
 /// (API Reference, CreateQueue, `QueueDeletedRecently`).
@@ -147,8 +146,6 @@ pub struct Queues {
     left_over: LeftOver,
     /// What all queues take of memory, in bytes.
     bytes_in_use: AtomicU64,
-    /// What the journal needs once more for what books say, in bytes.
-    kept: AtomicU64,
     jumps: Jumps,
     copies: Copies,
     parts: Parts,
@@ -291,8 +288,7 @@ impl Queues {
         }
     }
 
-    /// Applies the reply of the program at this place to an ask of this queue. The second value says whether the journal
-    /// has to know.
+    /// Applies the reply of the program at this place to an ask of this queue.
     pub fn apply_reply(
         &self,
         place: usize,
@@ -300,7 +296,7 @@ impl Queues {
         ask: &Ask,
         reply: StoreReply,
         moment: Moment,
-    ) -> Result<(Outcome, bool), SqsError> {
+    ) -> Result<Outcome, SqsError> {
         match (ask, reply) {
             (Ask::Parts { number, ask }, reply) => self.parts.apply_reply(*number, ask, reply, moment),
             (_, StoreReply::Refused(code)) if !matches!(ask, Ask::ChangeVisibility { .. }) => {
@@ -308,27 +304,27 @@ impl Queues {
             }
             (Ask::Create { store, .. }, StoreReply::Created) => {
                 self.created(place, queue, *store);
-                Ok((Outcome::Done, true))
+                Ok(Outcome::Done)
             }
             (Ask::Remove { store }, StoreReply::Removed) => {
                 if let Some(number) = store.book() {
                     let bytes = self.books.remove(place, number);
                     self.bytes_in_use.fetch_sub(bytes, Ordering::Relaxed);
                 }
-                Ok((Outcome::Done, true))
+                Ok(Outcome::Done)
             }
             (Ask::Say { book, entry, text }, StoreReply::Sent(_)) => {
-                let size = Size::of(text);
+                let size = size_of_text(text);
                 self.count_entry(place, *book, size);
                 self.said(place, queue, entry, *book, size);
-                Ok((Outcome::Done, true))
+                Ok(Outcome::Done)
             }
             (_, reply) => self.apply_to_messages(place, queue, ask, reply, moment),
         }
     }
 
     /// An entry of this size stands in this book.
-    fn count_entry(&self, place: usize, book: u64, size: Size) {
+    fn count_entry(&self, place: usize, book: u64, size: u64) {
         let bytes = self.books.count(place, book, size);
         self.bytes_in_use.fetch_add(bytes, Ordering::Relaxed);
     }
@@ -345,7 +341,7 @@ impl Queues {
     }
 
     /// The book of this number, of the program at this place, has this entry of this size, about this queue.
-    pub fn said(&self, place: usize, queue: &Arc<Queue>, entry: &Entry, book: u64, size: Size) {
+    pub fn said(&self, place: usize, queue: &Arc<Queue>, entry: &Entry, book: u64, size: u64) {
         match entry {
             Entry::Queue(entry) => self.said_of_queue(place, queue, entry, book, size),
             Entry::Removed(removal) => self.remove(place, queue, removal),
@@ -354,7 +350,7 @@ impl Queues {
                 self.remember_tasked(place, queue);
             }
             // The tables have it.
-            Entry::Attempt(_) => {}
+            Entry::Attempt(_) | Entry::Older(..) => {}
             Entry::Program(program) => self.program_said(program, book),
             Entry::Jump(moment, uncounted) => self.jumps.add(*moment, *uncounted),
         }
@@ -397,11 +393,11 @@ impl Queues {
         }
     }
 
-    fn said_of_queue(&self, place: usize, queue: &Arc<Queue>, entry: &QueueEntry, book: u64, size: Size) {
+    fn said_of_queue(&self, place: usize, queue: &Arc<Queue>, entry: &QueueEntry, book: u64, size: u64) {
         let earlier = queue.store_names();
         let is_new = !self.find(&queue.name).is_some_and(|found| Arc::ptr_eq(&found, queue));
         let said = if is_new {
-            let said = self.count_kept(&mut queue.state(), |state| state.said(entry, book, size));
+            let said = queue.state().said(entry, book, size);
             self.insert(queue);
             said
         } else {
@@ -426,7 +422,7 @@ impl Queues {
         ask: &Ask,
         reply: StoreReply,
         moment: Moment,
-    ) -> Result<(Outcome, bool), SqsError> {
+    ) -> Result<Outcome, SqsError> {
         let applied = self.counted(queue, |state| {
             let applied = state.apply_reply(ask, reply, moment, &self.jumps)?;
             if self.keeps_copies {
@@ -452,11 +448,10 @@ impl Queues {
         if applied.opened {
             queue.opened.notify_one();
         }
-        let outcome = match (queue.main(), ask) {
+        Ok(match (queue.main(), ask) {
             (Some(main), Ask::Send { .. }) => self.delayed(queue, &main, ask, applied.outcome, moment),
             _ => applied.outcome,
-        };
-        Ok((outcome, applied.changed))
+        })
     }
 
     /// A message was sent to the queue beside `main`: others find it by its call, and it is due some day.
@@ -480,39 +475,21 @@ impl Queues {
 
     /// Applies a record of a journal up to version 7, of which the store knows nothing.
     pub fn apply_older(&self, place: usize, queue: &Arc<Queue>, change: &TableChange, moment: Moment) {
-        match queue.entry_after(change, moment) {
-            Some(entry) => self.said(place, queue, &entry, 0, entry.size()),
-            None => self.counted(queue, |state| state.add_older(change, moment)),
+        if let TableChange::Delayed(message) = change {
+            self.counted(queue, |state| state.sent_older(message, moment));
+        } else if let Some(entry) = queue.entry_after(change, moment) {
+            self.said(place, queue, &entry, 0, entry.size());
         }
     }
 
-    /// Does something to a queue, and counts what it takes of memory from then on, and what books need for it.
+    /// Does something to a queue, and counts what it takes of memory from then on.
     fn counted<T>(&self, queue: &Queue, act: impl FnOnce(&mut State) -> T) -> T {
         let mut state = queue.state();
         let before = state.bytes_of_all();
-        let done = self.count_kept(&mut state, act);
+        let done = act(&mut state);
         // The difference may be below zero: it wraps, and the sum wraps back.
         self.bytes_in_use.fetch_add(state.bytes_of_all().wrapping_sub(before), Ordering::Relaxed);
         done
-    }
-
-    fn count_kept<T>(&self, state: &mut State, act: impl FnOnce(&mut State) -> T) -> T {
-        let before = state.kept();
-        let done = act(state);
-        self.kept.fetch_add(state.kept().wrapping_sub(before), Ordering::Relaxed);
-        done
-    }
-
-    /// What the journal needs, in bytes, so that all that counts in books can be said once more, and each purge that goes on
-    /// can come to its end.
-    pub fn kept_for_books(&self) -> u64 {
-        self.kept.load(Ordering::Relaxed)
-    }
-
-    /// Has the journal keep that.
-    pub fn keep_for_books(&self, journal: &Journal) {
-        let kept = self.kept_for_books();
-        journal.keep(kept, self.books.journal_bytes().saturating_sub(kept));
     }
 
     /// What all queues take of memory, in bytes. What has become too old to count may be in it until `look_at_ages`.

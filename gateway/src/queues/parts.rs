@@ -73,24 +73,24 @@ impl Parts {
         entries.last_number = entries.last_number.max(number);
     }
 
-    /// Applies the store's reply. The second value says whether the journal has to know.
+    /// Applies the store's reply.
     pub fn apply_reply(
         &self,
         number: u64,
         ask: &PartsAsk,
         reply: StoreReply,
         moment: Moment,
-    ) -> Result<(Outcome, bool), SqsError> {
+    ) -> Result<Outcome, SqsError> {
         match (ask, reply) {
             (_, StoreReply::Refused(code)) => Err(SqsError::of_refusal(code)),
             (PartsAsk::Create(_), StoreReply::Created) => {
                 self.found(number);
-                Ok((Outcome::Done, true))
+                Ok(Outcome::Done)
             }
-            (PartsAsk::Add(..), StoreReply::Sent(_)) => Ok((Outcome::Done, true)),
+            (PartsAsk::Add(..), StoreReply::Sent(_)) => Ok(Outcome::Done),
             (PartsAsk::Read, StoreReply::Received(parts)) => {
                 let texts: Vec<_> = parts.into_iter().map(|part| part.body).collect();
-                Ok((Outcome::Parts(texts.concat()), false))
+                Ok(Outcome::Parts(texts.concat()))
             }
             (PartsAsk::Remove, StoreReply::Removed) => {
                 let mut entries = self.entries();
@@ -98,7 +98,7 @@ impl Parts {
                 if entries.are_used_again {
                     entries.removed.insert((moment, number));
                 }
-                Ok((Outcome::Done, true))
+                Ok(Outcome::Done)
             }
             _ => Err(SqsError::InternalFailure("The store's answer doesn't fit the request.".into())),
         }
@@ -284,6 +284,6 @@ mod tests {
             receipt: "1-1-1".into(),
         });
         let read = parts.apply_reply(1, &PartsAsk::Read, StoreReply::Received(given.to_vec()), 0).unwrap();
-        assert!(matches!(read, (Outcome::Parts(text), false) if text == "onetwo"));
+        assert!(matches!(read, Outcome::Parts(text) if text == "onetwo"));
     }
 }

@@ -8,7 +8,7 @@ use proptest::sample::Index;
 use proptest::test_runner::TestCaseResult;
 
 use super::ask::{Ask, Cause, Changer, Outcome, Reach, StoreName, TableChange};
-use super::book::{Entry, QueueEntry, Size};
+use super::book::{Entry, QueueEntry};
 use super::State;
 use crate::attributes::{GivenAttributes, QueueAttributes};
 use crate::clock::Moment;
@@ -112,7 +112,7 @@ struct Both {
     records: Vec<(Moment, Record)>,
 }
 
-/// What a journal keeps of what changed something.
+/// What a journal keeps.
 enum Record {
     Ask(Ask, StoreReply),
     Entry(QueueEntry),
@@ -150,9 +150,7 @@ impl Both {
 
     fn apply_reply(&mut self, ask: &Ask, reply: StoreReply) -> Outcome {
         let applied = self.state.apply_reply(ask, reply.clone(), self.now, &Jumps::default()).unwrap();
-        if applied.changed {
-            self.records.push((self.now, Record::Ask(recorded(ask), reply)));
-        }
+        self.records.push((self.now, Record::Ask(recorded(ask), reply)));
         applied.outcome
     }
 
@@ -164,7 +162,7 @@ impl Both {
                 Record::Ask(ask, reply) => {
                     drop(again.apply_reply(ask, reply.clone(), *moment, &Jumps::default()).unwrap());
                 }
-                Record::Entry(entry) => drop(again.said(entry, 1, Size::default())),
+                Record::Entry(entry) => drop(again.said(entry, 1, 0)),
             }
         }
         prop_assert_eq!(again.messages_told(), self.state.messages_told());
@@ -307,7 +305,7 @@ impl Both {
                     GivenAttributes::read(QueueKind::Fifo, &[("DelaySeconds".into(), seconds.to_string())]).unwrap();
                 if let Some(Entry::Queue(entry)) = self.state.entry_after(&TableChange::Attributes(given), 0, self.now)
                 {
-                    self.state.said(&entry, 1, Size::default());
+                    self.state.said(&entry, 1, 0);
                     self.records.push((self.now, Record::Entry(entry)));
                 }
             }

@@ -107,7 +107,7 @@ mod tests {
     use super::*;
     use crate::messages::Envelope;
     use crate::queues::ask::{Reach, StoreName};
-    use crate::queues::book::{QueueEntry, Size};
+    use crate::queues::book::QueueEntry;
     use crate::texts::{DedupId, GroupId, QueueName};
 
     #[test]
@@ -117,7 +117,7 @@ mod tests {
         let entry = QueueEntry { tags: tags(10_000), ..QueueEntry::plain(StoreName(1), name, 1) };
         let queues = Arc::<Queues>::default();
         let queue = Arc::new(Queue::new(&entry));
-        queues.said(0, &queue, &Entry::Queue(entry.clone()), 1, Size::default());
+        queues.said(0, &queue, &Entry::Queue(entry.clone()), 1, 0);
         let admission = Admission::new(queues, Some(10_000));
         let (sender, answer) = std::sync::mpsc::channel();
         std::thread::spawn(move || {

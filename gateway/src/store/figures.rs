@@ -12,38 +12,29 @@ pub struct Figures {
     /// What is in use of memory, in bytes, by the count that the bound is about.
     pub memory_bytes: u64,
     pub memory_bound: Option<u64>,
-    /// None where there is no journal.
-    pub journal: Option<JournalFigures>,
+    /// How often a request was refused since a program's journal had no room for it.
+    pub lacked_room: u64,
     /// How often a program `cq` that had ended was started again.
     pub restarts: u64,
     /// Requests that were asked and aren't answered by the store. Polls between two tries don't count.
     pub open: usize,
 }
 
-/// Figures of a journal.
-#[derive(Clone, Copy, Debug, PartialEq, Eq)]
-pub struct JournalFigures {
-    /// What stands in its files, and what is on its way there, in bytes.
-    pub bytes: u64,
-    pub bound: Option<u64>,
-    /// How many commits were written since the start.
-    pub commits: u64,
-    /// How many records it has.
-    pub records: u64,
-    /// Its disk has no space left.
-    pub is_disk_full: bool,
-}
-
 /// What the tasks count.
 #[derive(Default)]
 pub(super) struct Counters {
     restarts: AtomicU64,
+    lacked_room: AtomicU64,
     open: AtomicUsize,
 }
 
 impl Counters {
     pub fn count_restart(&self) {
         self.restarts.fetch_add(1, Ordering::Relaxed);
+    }
+
+    pub fn count_lack_of_room(&self) {
+        self.lacked_room.fetch_add(1, Ordering::Relaxed);
     }
 
     /// The number of open requests of a task has become `now`; it was `before`.
@@ -61,7 +52,7 @@ impl Store {
             queues: self.queues.count(),
             memory_bytes: self.admission.bytes_in_use(),
             memory_bound: self.admission.memory.limit(),
-            journal: self.journal.as_ref().map(|journal| journal.figures()),
+            lacked_room: self.counters.lacked_room.load(Ordering::Relaxed),
             restarts: self.counters.restarts.load(Ordering::Relaxed),
             open: self.counters.open.load(Ordering::Relaxed),
         }

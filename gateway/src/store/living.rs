@@ -12,13 +12,15 @@ use crate::attributes::GivenAttributes;
 use crate::clock::Moment;
 use crate::errors::SqsError;
 use crate::handles::Receipt;
-use crate::journal::Record;
 use crate::lines::{self, AskFields, OutputLine, StoreReply};
 use crate::messages::{parts_of, Envelope, EnvelopeHead};
 use crate::move_tasks::{MoveTask, Status};
 use crate::moves::{CopyId, Origin};
-use crate::queues::ask::{Ask, Cause, Changer, Handed, Outcome, PartsAsk, PartsCause, Reach, StoreName, TableChange};
-use crate::queues::book::{Entry, ProgramEntry, QueueEntry};
+use crate::older::Record;
+use crate::queues::ask::{
+    Ask, Cause, Changer, Delayed, Handed, Outcome, PartsAsk, PartsCause, Reach, StoreName, TableChange,
+};
+use crate::queues::book::{entries_of_facts, Entry, ProgramEntry, QueueEntry};
 use crate::queues::shards::Shards;
 use crate::queues::{Queue, Queues};
 use crate::texts::{AttemptId, DedupId, GroupId, QueueKind, QueueName};
@@ -69,6 +71,9 @@ pub enum Step {
     Take(bool),
     /// The queue goes over to another name in the store, if it is empty.
     GoOver,
+    /// What a journal of an earlier version may have beside the store: a handing that counts as none, a message whose envelope
+    /// the store hasn't got, or a delayed one in a record.
+    Older(u8),
     BeginBook,
     EndBook,
     RemoveLeftOver,
@@ -104,6 +109,7 @@ pub fn steps() -> impl Strategy<Value = Steps> {
         1 => Just(Step::RemoveParts),
         4 => any::<bool>().prop_map(Step::Take),
         2 => Just(Step::GoOver),
+        3 => (0..3u8).prop_map(Step::Older),
         2 => Just(Step::BeginBook),
         2 => Just(Step::EndBook),
         2 => Just(Step::RemoveLeftOver),
@@ -120,7 +126,6 @@ pub struct Shown {
     pub used: BTreeSet<StoreName>,
     books: Vec<(Option<u64>, Vec<u64>)>,
     bytes: u64,
-    kept: u64,
 }
 
 pub fn shown(queues: &Queues, shards: Shards, now: Moment) -> Shown {
@@ -142,7 +147,6 @@ pub fn shown(queues: &Queues, shards: Shards, now: Moment) -> Shown {
         used: all.iter().flat_map(|queue| queue.store_names()).collect(),
         books: places.map(|place| (queues.books().current(place), queues.books().earlier(place))).collect(),
         bytes: queues.bytes_in_use(),
-        kept: queues.kept_for_books(),
     }
 }
 
@@ -158,7 +162,6 @@ pub struct Told {
     /// Without what attempts were given, and that.
     bytes: u64,
     pub attempts: Vec<(u64, Vec<String>)>,
-    kept: u64,
 }
 
 pub fn told(queues: &Queues, shards: Shards, now: Moment) -> Told {
@@ -183,7 +186,6 @@ pub fn told(queues: &Queues, shards: Shards, now: Moment) -> Told {
         numbers: queues.last_numbers(),
         bytes: queues.bytes_in_use() - attempts.iter().map(|(bytes, _)| bytes).sum::<u64>(),
         attempts,
-        kept: queues.kept_for_books(),
     }
 }
 
@@ -201,6 +203,8 @@ pub struct Seen {
     pub stores: Vec<StoreByRules>,
     /// The last line belongs to an attempt, and no book says that yet.
     pub is_attempt_unsaid: bool,
+    /// So does something that an earlier version has beside the store.
+    pub is_older_unsaid: bool,
     /// The messages that had a copy by then.
     pub copied: Vec<Origin>,
 }
@@ -211,12 +215,13 @@ impl Seen {
     }
 }
 
-/// Tables that live beside stores, and the journal of what changed something.
+/// Tables that live beside stores, and the journal of what was done.
 pub struct Living {
     pub queues: Queues,
     pub shards: Shards,
     stores: Vec<StoreByRules>,
     is_kept: bool,
+    keeps_copies: bool,
     now: Moment,
     sends: u64,
     tasks: u64,
@@ -224,6 +229,7 @@ pub struct Living {
     pub lines: Vec<(Vec<u8>, String)>,
     pub seen: Vec<Seen>,
     is_attempt_unsaid: bool,
+    is_older_unsaid: bool,
     copied: Vec<Origin>,
 }
 
@@ -232,9 +238,23 @@ impl Living {
     pub fn new(shards: Shards, keeps_copies: bool, is_kept: bool) -> Living {
         let stores = vec![StoreByRules::default(); shards.count() as usize];
         let (queues, lines, seen) = (Queues::new(keeps_copies), Vec::new(), Vec::new());
-        let (now, sends, tasks, is_attempt_unsaid, copied) = (1000, 0, 0, false, Vec::new());
-        let mut living =
-            Living { queues, shards, stores, is_kept, now, sends, tasks, lines, seen, is_attempt_unsaid, copied };
+        let (now, sends, tasks, copied) = (1000, 0, 0, Vec::new());
+        let (is_attempt_unsaid, is_older_unsaid) = (false, false);
+        let mut living = Living {
+            queues,
+            shards,
+            stores,
+            is_kept,
+            keeps_copies,
+            now,
+            sends,
+            tasks,
+            lines,
+            seen,
+            is_attempt_unsaid,
+            is_older_unsaid,
+            copied,
+        };
         shards.all().for_each(|shard| living.begin_book(shard.place()));
         living
     }
@@ -256,16 +276,17 @@ impl Living {
         let line = format!("{{\"client\":1,\"number\":1,\"reply\":{text}}}");
         let Ok(OutputLine::Answer { reply, .. }) = lines::read_output(line.as_bytes()) else { panic!("{line}") };
         let refused = matches!(reply, StoreReply::Refused(_));
-        let (outcome, changed) = self.queues.apply_reply(place, queue, &ask, reply, self.now)?;
-        if changed && !refused {
+        let outcome = self.queues.apply_reply(place, queue, &ask, reply, self.now)?;
+        if !refused {
             let mut line = Vec::new();
             Record::of_ask(self.now, &ask, &raw, &text).append(&mut line).unwrap();
             line.pop();
             self.lines.push((line, text));
             let (now, shown) = (self.now, shown(&self.queues, self.shards, self.now));
             let (told, stores) = (told(&self.queues, self.shards, self.now), self.stores.clone());
-            let (is_attempt_unsaid, copied) = (self.is_attempt_unsaid, self.copied.clone());
-            self.seen.push(Seen { now, shown, told, stores, is_attempt_unsaid, copied });
+            let (is_attempt_unsaid, is_older_unsaid) = (self.is_attempt_unsaid, self.is_older_unsaid);
+            let copied = self.copied.clone();
+            self.seen.push(Seen { now, shown, told, stores, is_attempt_unsaid, is_older_unsaid, copied });
         }
         Ok(outcome)
     }
@@ -276,7 +297,7 @@ impl Living {
 
     fn say(&mut self, queue: &Arc<Queue>, place: usize, entry: Entry) {
         let book = self.queues.books().current(place).unwrap();
-        let text = serde_json::to_string(&entry).unwrap();
+        let text = entry.text().unwrap();
         self.ask(queue, Ask::Say { book, entry: Arc::new(entry), text }).unwrap();
     }
 
@@ -297,6 +318,11 @@ impl Living {
         of_place.collect::<Vec<_>>().into_iter().for_each(|attempt| {
             self.say(&self.nameless(), place, Entry::Attempt(attempt));
         });
+        let mut queues = self.queues.all();
+        queues.retain(|queue| self.shards.place_of(&queue.name) == place);
+        for queue in queues {
+            queue.delays().into_iter().chain([queue]).for_each(|queue| self.say_older(&queue));
+        }
         let program = ProgramEntry { place, count: self.shards.count(), secret: secret_of(place) };
         self.say(&self.nameless(), place, Entry::Program(program));
     }
@@ -380,6 +406,60 @@ impl Living {
         let envelope = head.in_place(number, whole.len()).unwrap();
         let _ = self.ask(queue, Ask::Send { group, dedup, envelope, cause: Cause::Client });
         self.queues.parts().settle(number);
+    }
+
+    /// Has the book say what an earlier version has of a queue beside the store.
+    fn say_older(&mut self, queue: &Arc<Queue>) {
+        let facts = queue.state().older_facts();
+        for entry in entries_of_facts(queue.mark.0, facts) {
+            self.say(&self.nameless(), self.shards.place_of(&queue.name), entry);
+        }
+    }
+
+    /// A message whose whole envelope an earlier version has beside the store goes into parts, and the book says it.
+    fn send_beside(&mut self, queue: &Arc<Queue>) {
+        self.sends += 1;
+        let id = Uuid::from_u128(u128::from(self.sends));
+        let whole = format!("{{\"id\":\"{id}\",\"sent\":{}}}\nbeside {}", self.now, self.sends);
+        let stub = format!("{{\"id\":\"{id}\",\"elsewhere\":true}}");
+        let (group, dedup) = (self.next_group(queue), DedupId::parse(&self.sends.to_string()).unwrap());
+        let envelope = Envelope::Split { stub, whole: whole.clone() };
+        let sent = self.ask(queue, Ask::Send { group, dedup, envelope, cause: Cause::Client });
+        let Ok(Outcome::Sent { sequence, .. }) = sent else { return };
+        let number = self.queues.parts().next_number(self.shards, self.shards.place_of(&queue.name), Some(self.now));
+        for ask in [PartsAsk::Create(PartsCause::Move), PartsAsk::Add(PartsCause::Move, 0, whole.clone())] {
+            self.ask(&self.nameless(), Ask::Parts { number, ask }).unwrap();
+        }
+        let line = EnvelopeHead::of(&whole).unwrap().in_place(number, whole.len()).unwrap();
+        queue.state().is_in_parts(sequence, number, line.stored().into());
+        self.queues.parts().name(number);
+    }
+
+    fn have_older(&mut self, queue: &Arc<Queue>, kind: u8) {
+        self.is_older_unsaid = true;
+        match kind {
+            0 => {
+                let (attempt, most, reach) = (None, None, Reach::Uncounted);
+                let _ = self.ask(queue, Ask::Receive { size: 1, visibility: 0, attempt, most, reach });
+            }
+            // No upgrade keeps copies.
+            1 if !self.keeps_copies => self.send_beside(queue),
+            _ if queue.name.kind() == QueueKind::Standard => {
+                self.sends += 1;
+                let (id, due) = (Uuid::from_u128(u128::from(self.sends)), self.now + 5000);
+                let call = Some(DedupId::of_call(&[100 + self.sends as u8; 32], None));
+                let delayed = Delayed { id, due, call, envelope: format!("{{}}\n\u{fffe}{}", self.sends) };
+                let change = TableChange::Delayed(Arc::new(delayed));
+                self.queues.apply_older(self.shards.place_of(&queue.name), queue, &change, self.now);
+            }
+            _ => {}
+        }
+        let facts = queue.state().older_facts();
+        let mut entries = entries_of_facts(queue.mark.0, facts);
+        let last = entries.pop();
+        entries.into_iter().for_each(|entry| self.say(&self.nameless(), self.shards.place_of(&queue.name), entry));
+        self.is_older_unsaid = false;
+        last.into_iter().for_each(|entry| self.say(&self.nameless(), self.shards.place_of(&queue.name), entry));
     }
 
     fn receive(&mut self, queue: &Arc<Queue>, size: u8, visibility: u32) -> Vec<Handed> {
@@ -572,6 +652,7 @@ impl Living {
                 self.take(queue, *is_deleted);
                 queue.delays().into_iter().for_each(|delays| self.take(&delays, *is_deleted));
             }
+            Step::Older(kind) if self.is_kept => self.have_older(queue, *kind),
             Step::GoOver => {
                 let is_empty = queue.delays().map_or(true, |delays| delays.state().count() == 0);
                 if is_empty && queue.state().count() == 0 && queue.state().purging().is_none() {
@@ -579,7 +660,11 @@ impl Living {
                     self.now += WINDOW;
                     let store = self.queues.next_store_name(self.shards, self.shards.place_of(&queue.name));
                     self.ask(queue, Ask::Create { store, visibility: 30, bytes: 0 }).unwrap();
-                    self.change(queue, TableChange::GoneOver(store));
+                    let entry = {
+                        let state = queue.state();
+                        QueueEntry { store, base: state.last_sequence, ..state.entry.clone() }
+                    };
+                    self.say(queue, self.shards.place_of(&queue.name), Entry::Queue(entry));
                 }
             }
             _ => {}

@@ -20,7 +20,6 @@ use crate::budget::Share;
 use crate::clock::Clock;
 use crate::errors::SqsError;
 use crate::handles::{Mark, Receipt};
-use crate::journal::{Journal, Need};
 use crate::lines;
 use crate::queues::ask::{Ask, Cause, Handed, Outcome, PartsAsk, Reach, StoreName, TableChange};
 use crate::queues::book::Entry;
@@ -30,10 +29,10 @@ use crate::texts::{AttemptId, QueueKind, QueueName};
 use admission::Admission;
 use figures::Counters;
 
-pub use figures::{Figures, JournalFigures};
+pub use figures::Figures;
 pub use replay::{replay_all, ReplayError, Replayed, Tables};
-pub use task::{start, Ended, Kept, Start};
-pub use told::{start as start_told, Keeping, Ready, ToldError};
+pub use task::{start, Ends, Kept, Start};
+pub use told::{start as start_told, Ready, ToldError};
 
 /// Operations that are performed one after the other, and where their answers go.
 struct Job {
@@ -131,21 +130,10 @@ pub struct Store {
     shards: Shards,
     queues: Arc<Queues>,
     clock: Arc<Clock>,
-    journal: Option<Journal>,
     /// The programs keep their lines themselves.
     is_kept: bool,
     admission: Arc<Admission>,
     counters: Arc<Counters>,
-}
-
-/// What the records of ten messages take at most beside these.
-const ROOM: u64 = 32 << 10;
-
-/// So much of the journal's space is left for deletes where a book is begun anew.
-const KEPT_FOR_DELETES: u64 = 1 << 20;
-
-fn being_asked() -> SqsError {
-    SqsError::ServiceUnavailable("The journal's disk is being asked for space.".into())
 }
 
 impl Store {
@@ -162,65 +150,14 @@ impl Store {
         self.is_kept
     }
 
-    /// Whether space of the journal is wanted back: its bound or its disk is full.
-    pub fn wants_space(&self) -> bool {
-        self.journal.as_ref().is_some_and(Journal::wants_space)
-    }
-
     /// Whether the bound of memory is full.
     pub fn is_memory_full(&self) -> bool {
         self.admission.memory.is_full(self.admission.bytes_in_use())
     }
 
-    /// Refuses to move messages of so many bytes where their copies would be refused, since the journal's disk is full.
-    pub fn test_room_to_move(&self, bytes: u64) -> Result<(), SqsError> {
-        if self.has_room(Need::Same, ROOM + 2 * bytes)? {
-            return Ok(());
-        }
-        Err(being_asked())
-    }
-
-    /// Waits until the journal has room for a book of so many bytes, and some more for deletes. Refuses it where the disk has
-    /// no such space.
-    pub async fn wait_for_room(&self, need: Need, bytes: u64) -> Result<(), SqsError> {
-        let Some(mut grown) = self.journal.as_ref().map(Journal::grown) else { return Ok(()) };
-        while !self.has_room(need, bytes + KEPT_FOR_DELETES)? {
-            // The journal doesn't end before the store.
-            let _ = grown.changed().await;
-        }
-        Ok(())
-    }
-
-    /// Whether the journal's disk is full and has room for a book of so many bytes all the same, and for what stays beside books
-    /// when the journal is written anew: so the earlier one can go.
-    pub fn has_room_on_full_disk(&self, bytes: u64) -> bool {
-        let full = self.journal.as_ref().filter(|journal| journal.is_disk_full());
-        let Some(staying) = full.and_then(Journal::staying) else { return false };
-        let beside = staying.saturating_sub(self.queues.books().journal_bytes());
-        self.has_room(Need::Free, bytes + beside + KEPT_FOR_DELETES) == Ok(true)
-    }
-
-    /// Has a book that is begun next stand in a segment of its own where the journal's disk is full.
-    pub async fn begin_segment(&self) {
-        if let Some(journal) = &self.journal {
-            journal.begin_segment().await;
-        }
-    }
-
     /// Refuses to send so many bytes where that would be refused in the end.
     pub fn test_room_to_send(&self, bytes: u64) -> Result<(), SqsError> {
-        self.admission.test(bytes, self.clock.now())?;
-        self.has_room(Need::More, ROOM + 2 * bytes).map(drop)
-    }
-
-    /// Whether the journal has room for records of so many bytes now. Where it never has, it refuses them.
-    fn has_room(&self, need: Need, bytes: u64) -> Result<bool, SqsError> {
-        let Some(journal) = &self.journal else { return Ok(true) };
-        let room = journal.set_aside(need, bytes)?;
-        if let Some(room) = room {
-            journal.give_back(room);
-        }
-        Ok(room.is_some())
+        self.admission.test(bytes, self.clock.now())
     }
 
     /// The place of the program that has the queue of this name.

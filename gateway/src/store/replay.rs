@@ -1,4 +1,4 @@
-//! Brings a fresh program to where a journal is, and compares each reply with the one that was given.
+//! Brings a fresh program to where a journal of an earlier version is, and compares each reply with the one that was given.
 //!
 //! Several programs share one journal, each its own queues. The records of one stand there in the order in which it
 //! answered, with clocks that never fall; between records of two nothing is kept, since their answers come as they
@@ -18,9 +18,9 @@ use tokio::task::JoinSet;
 
 use crate::clock::{Clock, Moment};
 use crate::cq::{Cq, CqError};
-use crate::journal::{digest_of_reply, JournalError, Opened, Record, Records};
-use crate::lines::{self, AskFields, AskKind, BadOutput, OutputLine};
+use crate::lines::{self, AskFields, AskKind, BadOutput, OutputLine, NO_ROOM};
 use crate::move_tasks::MoveTask;
+use crate::older::{digest_of_reply, OlderError, Record, Records};
 use crate::queues::ask::{Ask, StoreName, TableChange};
 use crate::queues::book::{Entry, QueueEntry, Removal};
 use crate::queues::shards::{Shard, Shards};
@@ -34,11 +34,13 @@ pub enum ReplayError {
     #[error(transparent)]
     BadOutput(#[from] BadOutput),
     #[error(transparent)]
-    Journal(#[from] JournalError),
+    Journal(#[from] OlderError),
     #[error("the reply to request {0} of the journal isn't the one that was given")]
     OtherReply(u64),
     #[error("record {0} of the journal can't be read")]
     BadRecord(u64),
+    #[error("the programs' journals have no room for it: give them more (--journal-size)")]
+    NoRoom,
 }
 
 impl ReplayError {
@@ -48,16 +50,19 @@ impl ReplayError {
     }
 }
 
-/// What a replay found.
-#[derive(Default)]
+/// What a replay came to.
 pub struct Replayed {
+    pub cq: Cq,
     /// How many records the journal has.
     pub records: u64,
     /// The latest clock of these.
     pub latest: Moment,
+    /// The number of the last line that the program counted, and of the last request.
+    pub line: u64,
+    pub number: u64,
 }
 
-/// What the records are taken into, beside the store.
+/// What the records are taken into, beside the store. Copies are the same.
 #[derive(Clone)]
 pub struct Tables {
     pub queues: Arc<Queues>,
@@ -78,7 +83,7 @@ enum Unanswered {
         number: u64,
         digest: String,
         clock: Moment,
-        /// The queue and its ask, where there are tables.
+        /// The queue and its ask, where the tables have to know.
         subject: Option<(Arc<Queue>, Ask)>,
     },
     Older {
@@ -92,7 +97,7 @@ enum Unanswered {
 
 struct Replay {
     shard: Shard,
-    tables: Option<Tables>,
+    tables: Tables,
     known: Arc<Known>,
     skipped: HashSet<StoreName>,
     /// Whether the shard has the queue of a name of the store.
@@ -111,6 +116,8 @@ struct Replay {
     out: BytesMut,
     records: u64,
     asked: u64,
+    /// The number of the last line that the program counted.
+    line: u64,
     last_clock: Moment,
     latest: Moment,
     /// The journal has no more records.
@@ -129,27 +136,25 @@ const PIECE: usize = 256 * 1024;
 pub async fn replay_all(
     cqs: Vec<Cq>,
     shards: Shards,
-    opened: &Opened,
+    records: &Records,
     tables: &Tables,
-) -> Result<(Vec<Cq>, Replayed), ReplayError> {
-    let known = Arc::new(read_books(opened.records()?)?);
+) -> Result<Vec<Replayed>, ReplayError> {
+    let known = Arc::new(read_books(records.clone())?);
     // Where one of them fails, the others are ended.
     let mut begun = JoinSet::new();
-    for (mut cq, shard) in cqs.into_iter().zip(shards.all()) {
-        let (records, tables, known) = (opened.records()?, tables.clone(), known.clone());
+    for (cq, shard) in cqs.into_iter().zip(shards.all()) {
+        let (records, tables, known) = (records.clone(), tables.clone(), known.clone());
         begun.spawn(async move {
-            let replayed = replay(&mut cq, records, shard, Some((tables, known))).await?;
-            Ok::<_, ReplayError>((shard.place(), cq, replayed))
+            let replayed = replay(cq, records, shard, tables, known).await?;
+            Ok::<_, ReplayError>((shard.place(), replayed))
         });
     }
-    let (mut ready, mut all) = (BTreeMap::new(), Replayed::default());
+    let mut all = BTreeMap::new();
     while let Some(replay) = begun.join_next().await {
-        let (place, cq, replayed) = replay.map_err(|error| JournalError::Io(error.to_string()))??;
-        ready.insert(place, cq);
-        // Each of them has seen all records.
-        all = replayed;
+        let (place, replayed) = replay.map_err(|error| OlderError::Io(error.to_string()))??;
+        all.insert(place, replayed);
     }
-    Ok((ready.into_values().collect(), all))
+    Ok(all.into_values().collect())
 }
 
 /// What the books that are there say first of each name of the store. The entries may stand behind records of its queue.
@@ -158,7 +163,7 @@ type Known = HashMap<StoreName, QueueEntry>;
 /// The record of an entry has these bytes, and others may have them too: clients choose the keys and values of tags.
 const PERHAPS_ENTRY: &[u8] = b"\"queue\":\"book";
 
-fn read_books(records: Records) -> Result<Known, JournalError> {
+fn read_books(records: Records) -> Result<Known, OlderError> {
     let (mut known, removed) = (Known::new(), records.removed().clone());
     records.read(|payload| {
         if memchr::memmem::find(&payload, PERHAPS_ENTRY).is_some() {
@@ -184,19 +189,18 @@ fn remember_entry(line: &[u8], removed: &HashSet<StoreName>, known: &mut Known) 
     }
 }
 
-/// Feeds the records of a shard to its program, and to the tables where there are any.
-pub async fn replay(
-    cq: &mut Cq,
+/// Feeds the records of a shard to its program, and to the tables.
+async fn replay(
+    mut cq: Cq,
     records: Records,
     shard: Shard,
-    tables: Option<(Tables, Arc<Known>)>,
+    tables: Tables,
+    known: Arc<Known>,
 ) -> Result<Replayed, ReplayError> {
-    if let Some((tables, _)) = &tables {
-        // A name that counts as removed is never used again: the records that gave it may be gone, and its removal stand in
-        // a segment that another one took the place of.
-        records.removed().iter().for_each(|name| tables.queues.saw_store_name(*name));
-    }
-    let mut replay = Replay::new(shard, tables, records.removed().clone());
+    // A name that counts as removed is never used again: the records that gave it may be gone, and its removal stand in
+    // a segment that another one took the place of.
+    records.removed().iter().for_each(|name| tables.queues.saw_store_name(*name));
+    let mut replay = Replay::new(shard, tables, known, records.removed().clone());
     // The file is read by a thread of its own, a little ahead.
     let (payloads, mut payload) = mpsc::channel(4);
     let reader = tokio::task::spawn_blocking(move || records.read(|read| payloads.blocking_send(read).is_ok()));
@@ -222,19 +226,18 @@ pub async fn replay(
         }
         incoming.reserve(PIECE);
     }
-    reader.await.map_err(|error| JournalError::Io(error.to_string()))??;
-    let (records, latest) = (replay.records, replay.latest);
+    reader.await.map_err(|error| OlderError::Io(error.to_string()))??;
     replay.leave_over();
-    Ok(Replayed { records, latest })
+    let Replay { records, latest, line, asked, .. } = replay;
+    Ok(Replayed { cq, records, latest, line, number: asked })
 }
 
 impl Replay {
-    fn new(shard: Shard, tables: Option<(Tables, Arc<Known>)>, skipped: HashSet<StoreName>) -> Replay {
-        let (tables, known) = tables.unzip();
+    fn new(shard: Shard, tables: Tables, known: Arc<Known>, skipped: HashSet<StoreName>) -> Replay {
         Replay {
             shard,
             tables,
-            known: known.unwrap_or_default(),
+            known,
             skipped,
             own: HashMap::new(),
             queues: HashMap::new(),
@@ -248,6 +251,7 @@ impl Replay {
             out: BytesMut::new(),
             records: 0,
             asked: 0,
+            line: 0,
             last_clock: 0,
             latest: 0,
             is_read: false,
@@ -260,7 +264,7 @@ impl Replay {
         self.is_read = true;
         let mut lines = Vec::new();
         let appended = lines::append_moment(&mut lines, self.last_clock);
-        appended.map_err(|error| JournalError::Io(error.to_string()))?;
+        appended.map_err(|error| OlderError::Io(error.to_string()))?;
         self.out.extend_from_slice(&lines);
         self.waiting.push_back(Unanswered::Last);
         Ok(())
@@ -269,9 +273,7 @@ impl Replay {
     fn take_records(&mut self, payload: &[u8]) -> Result<(), ReplayError> {
         for line in payload.split(|byte| *byte == b'\n').filter(|line| !line.is_empty()) {
             self.records += 1;
-            if let Some(tables) = &self.tables {
-                tables.progress.store(self.records, Ordering::Relaxed);
-            }
+            self.tables.progress.store(self.records, Ordering::Relaxed);
             self.take_record(line).ok_or(ReplayError::BadRecord(self.records))?;
         }
         Ok(())
@@ -282,24 +284,18 @@ impl Replay {
         self.latest = self.latest.max(record.clock);
         if let Some(uncounted) = record.uncounted {
             // It counts from its moment on, so nothing has to wait for its turn.
-            if let Some(tables) = &self.tables {
-                tables.clock.go_on_from(record.clock);
-                tables.queues.jumps().add(record.clock, uncounted);
-            }
+            self.tables.clock.go_on_from(record.clock);
+            self.tables.queues.jumps().add(record.clock, uncounted);
             return Some(());
         }
         let store = record.store_name()?;
-        if let Some(tables) = &self.tables {
-            tables.clock.go_on_from(record.clock);
-            tables.queues.saw_store_name(store);
-        }
+        self.tables.clock.go_on_from(record.clock);
+        self.tables.queues.saw_store_name(store);
         if store.is_among(&self.skipped) {
             self.remember_passed(&record, store);
-            if let (Some(tables), Some(name)) = (&self.tables, &record.removed) {
-                if self.shard.has(name) {
-                    let mark = self.passed.get(&store).copied().unwrap_or(0);
-                    tables.queues.remember_removal(&Removal { name: name.clone(), mark, at: record.clock });
-                }
+            if let Some(name) = record.removed.as_ref().filter(|name| self.shard.has(name)) {
+                let mark = self.passed.get(&store).copied().unwrap_or(0);
+                self.tables.queues.remember_removal(&Removal { name: name.clone(), mark, at: record.clock });
             }
             return Some(());
         }
@@ -309,10 +305,8 @@ impl Replay {
         match (record.ask, &record.change) {
             (Some(raw), None) => {
                 let fields = record.fields()?;
-                let subject = match self.tables {
-                    Some(_) if self.has_subject(&fields, store) => Some(self.ask_of(&record, fields, store)?),
-                    _ => None,
-                };
+                let has_subject = self.has_subject(&fields, store);
+                let subject = if has_subject { Some(self.ask_of(&record, fields, store)?) } else { None };
                 // Only asks move the program's clock. An ask that is still open may be earlier than a change.
                 self.last_clock = self.last_clock.max(record.clock);
                 self.asked += 1;
@@ -326,10 +320,8 @@ impl Replay {
                 self.take_older(record, store);
             }
             (None, Some(change)) => {
-                if self.tables.is_some() {
-                    let queue = self.queues.get(&store)?.clone();
-                    self.wait_with(queue, Older::Change(change.clone()), record.clock);
-                }
+                let queue = self.queues.get(&store)?.clone();
+                self.wait_with(queue, Older::Change(change.clone()), record.clock);
             }
             _ => return None,
         }
@@ -342,9 +334,6 @@ impl Replay {
 
     /// Takes up what a journal up to version 7 has beside a creation, or a removal that a client asked for.
     fn take_older(&mut self, record: Record<'_>, store: StoreName) {
-        if self.tables.is_none() {
-            return;
-        }
         if let Some(creation) = record.creation {
             let (entry, tasks) = creation.into_entries(store, record.clock);
             let (mark, queue) = (entry.mark, self.queue_of(&entry));
@@ -393,12 +382,7 @@ impl Replay {
             self.own.insert(store, is_own);
         }
         let store = store.main().unwrap_or(store);
-        match (self.own.get(&store), &self.tables) {
-            (Some(is_own), _) => Some(*is_own),
-            // Others go on meanwhile: a queue of theirs was removed, and its first records have gone.
-            (None, None) => Some(false),
-            (None, Some(_)) => None,
-        }
+        self.own.get(&store).copied()
     }
 
     /// Whether the tables have to know. Of messages of a queue that isn't there any more they don't.
@@ -408,7 +392,7 @@ impl Replay {
     }
 
     fn ask_of(&mut self, record: &Record<'_>, fields: AskFields<'_>, store: StoreName) -> Option<(Arc<Queue>, Ask)> {
-        let nameless = self.tables.as_ref()?.queues.nameless()?;
+        let nameless = self.tables.queues.nameless()?;
         if let Some(number) = store.parts() {
             return Some((nameless, record.to_parts_ask(&fields, number)?));
         }
@@ -463,7 +447,7 @@ impl Replay {
                 queue
             }
             // No journal of the gateway's own has any.
-            Entry::Program(_) | Entry::Attempt(_) | Entry::Jump(..) => None,
+            Entry::Program(_) | Entry::Attempt(_) | Entry::Jump(..) | Entry::Older(..) => None,
         }
     }
 
@@ -477,8 +461,13 @@ impl Replay {
                 _ => 0,
             };
             let output = lines::read_output(line)?;
-            let OutputLine::Answer { number: answered, reply, text, .. } = output else {
-                return Err(ReplayError::OtherReply(number));
+            let (answered, reply, text) = match output {
+                OutputLine::Answer { number: answered, reply, text, line, .. } => {
+                    self.line = line;
+                    (answered, reply, text)
+                }
+                OutputLine::Refused { code: NO_ROOM, .. } => return Err(ReplayError::NoRoom),
+                _ => return Err(ReplayError::OtherReply(number)),
             };
             let (number, digest, clock, subject) = match self.waiting.pop_front() {
                 Some(Unanswered::Ask { number, digest, clock, subject }) => (number, digest, clock, subject),
@@ -491,8 +480,8 @@ impl Replay {
             if answered != number || digest_of_reply(text) != digest {
                 return Err(ReplayError::OtherReply(number));
             }
-            if let (Some((queue, ask)), Some(tables)) = (subject, &self.tables) {
-                let applied = tables.queues.apply_reply(self.shard.place(), &queue, &ask, reply, clock);
+            if let Some((queue, ask)) = subject {
+                let applied = self.tables.queues.apply_reply(self.shard.place(), &queue, &ask, reply, clock);
                 applied.map_err(|_| ReplayError::OtherReply(number))?;
             }
         }
@@ -502,17 +491,17 @@ impl Replay {
     fn apply_older(&mut self) {
         while let Some(Unanswered::Older { .. }) = self.waiting.front() {
             let Some(Unanswered::Older { queue, older, clock }) = self.waiting.pop_front() else { return };
-            let Some(tables) = &self.tables else { return };
+            let (queues, place) = (&self.tables.queues, self.shard.place());
             match older {
-                Older::Entry(entry, book) => tables.queues.said(self.shard.place(), &queue, &entry, book, entry.size()),
-                Older::Change(change) => tables.queues.apply_older(self.shard.place(), &queue, &change, clock),
+                Older::Entry(entry, book) => queues.said(place, &queue, &entry, book, entry.size()),
+                Older::Change(change) => queues.apply_older(place, &queue, &change, clock),
             }
         }
     }
 
     /// Names that the store has and that no queue goes by are to go: what is there is what the book says.
     fn leave_over(&mut self) {
-        let Some(Tables { queues, .. }) = &self.tables else { return };
+        let queues = &self.tables.queues;
         for mark in &self.gone {
             if let Some(queue) = self.by_mark.get(mark) {
                 queues.forget(queue);

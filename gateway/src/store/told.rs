@@ -9,7 +9,6 @@ use tokio::io::{AsyncReadExt, AsyncWriteExt};
 
 use crate::cq::{Cq, CqError, KeptFile};
 use crate::lines::{self, BadOutput, OutputLine, StartLine, NO_ROOM};
-use crate::queues::shards::Shards;
 use crate::queues::ImageError;
 
 /// No line of a start is longer: a chunk has a kept reply at most, or a message.
@@ -38,27 +37,6 @@ impl ToldError {
     /// Whether the program is gone, or as good as that: another one may do better.
     pub fn is_of_program(&self) -> bool {
         matches!(self, ToldError::Cq(_) | ToldError::BadOutput(_))
-    }
-}
-
-/// How programs keep their lines.
-#[derive(Clone, Debug)]
-pub struct Keeping {
-    pub path: PathBuf,
-    /// How large each file is made, in MiB.
-    pub size: Option<u64>,
-}
-
-impl Keeping {
-    /// The file of the program at this place. One that has all queues has the file of the path itself.
-    pub fn file(&self, shards: Shards, place: usize) -> KeptFile {
-        let size = self.size;
-        if shards == Shards::ONE {
-            return KeptFile { path: self.path.clone(), size };
-        }
-        let mut path = self.path.clone().into_os_string();
-        path.push(format!(".{}", place + 1));
-        KeptFile { path: path.into(), size }
     }
 }
 

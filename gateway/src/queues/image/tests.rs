@@ -25,6 +25,9 @@ fn made_of(seen: &Seen, shards: Shards, keeps_copies: bool, parts: usize) -> Que
 
 fn compare(living: &Living, count: usize, parts: usize) -> TestCaseResult {
     let Some(seen) = count.checked_sub(1).map(|last| &living.seen[last]) else { return Ok(()) };
+    if seen.is_older_unsaid {
+        return Ok(());
+    }
     let queues = made_of(seen, living.shards, living.queues.keeps_copies, parts);
     let (mut made, mut there) = (told(&queues, living.shards, seen.now), seen.told.clone());
     if seen.is_attempt_unsaid {

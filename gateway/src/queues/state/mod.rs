@@ -7,21 +7,21 @@ mod delayed;
 mod message;
 mod next;
 mod numbers;
+mod older;
 mod peek;
 mod receipts;
 mod said;
 mod stored;
 #[cfg(test)]
 mod tests;
-mod uncounted;
 
 use std::collections::{HashMap, VecDeque};
 use std::sync::Arc;
 
 use uuid::Uuid;
 
-use super::ask::{Ask, Cause, Changer, Fate, Handed, Outcome, Reach, TableChange};
-use super::book::{AttemptEntry, QueueEntry, Size};
+use super::ask::{Ask, Cause, Changer, Delayed, Fate, Handed, Outcome, Reach};
+use super::book::{AttemptEntry, QueueEntry};
 use super::groups::{Group, Groups};
 use crate::attributes::QueueAttributes;
 use crate::clock::Moment;
@@ -37,9 +37,10 @@ use crate::texts::{AttemptId, GroupId, QueueKind};
 use attempts::{Attempt, Attempts};
 use delayed::{Calls, DueMessages, First, OlderDelayed};
 use message::{Handing, Message, Messages};
+pub use older::OlderFact;
+use older::OlderMessages;
 pub use peek::{Chunk, Cursor, Peeked, Visibility};
 use said::bytes_of_queue;
-use uncounted::UncountedHandings;
 
 /// So long a deduplication id counts, in milliseconds. A repeated attempt id is given the same messages as long.
 pub const WINDOW: u64 = 300_000;
@@ -67,8 +68,8 @@ pub struct State {
     pub entry: QueueEntry,
     /// The number of the book that says it, and the size of the entry. The same of each of its tasks.
     pub said_in: u64,
-    entry_size: Size,
-    tasks_said_in: HashMap<Uuid, (u64, Size)>,
+    entry_size: u64,
+    tasks_said_in: HashMap<Uuid, (u64, u64)>,
     /// What the queue takes without its messages.
     own_bytes: u64,
     tasks: Vec<MoveTask>,
@@ -98,7 +99,7 @@ pub struct State {
     groups: Option<Groups>,
     /// When somebody did so the last time.
     groups_needed: Moment,
-    uncounted: UncountedHandings,
+    older_messages: OlderMessages,
     /// Of a queue beside a standard one.
     due: DueMessages,
     /// Of a standard queue.
@@ -111,8 +112,6 @@ pub struct State {
 /// What a reply of the store or a change did.
 pub struct Applied {
     pub outcome: Outcome,
-    /// Something changed, so the journal has to know.
-    pub changed: bool,
     /// Something happened that can open a group.
     pub opened: bool,
     /// The parts of the message that was sent or deleted.
@@ -121,11 +120,11 @@ pub struct Applied {
 
 impl Applied {
     fn unchanged(outcome: Outcome) -> Applied {
-        Applied { outcome, changed: false, opened: false, parts: None }
+        Applied { outcome, opened: false, parts: None }
     }
 
     fn done(opened: bool) -> Applied {
-        Applied { outcome: Outcome::Done, changed: true, opened, parts: None }
+        Applied { outcome: Outcome::Done, opened, parts: None }
     }
 }
 
@@ -145,7 +144,7 @@ impl State {
             kind,
             entry: entry.clone(),
             said_in: 0,
-            entry_size: Size::default(),
+            entry_size: 0,
             tasks_said_in: HashMap::new(),
             own_bytes: bytes_of_queue(&entry.attributes, &entry.tags),
             tasks: Vec::new(),
@@ -164,7 +163,7 @@ impl State {
             delay,
             groups: (delay > 0).then(Groups::default),
             groups_needed: 0,
-            uncounted: UncountedHandings::default(),
+            older_messages: OlderMessages::default(),
             due: DueMessages::default(),
             older: OlderDelayed::default(),
             calls: Calls::default(),
@@ -262,7 +261,7 @@ impl State {
         }
         self.messages.add(sequence, Message::new(sent, group, source, envelope, bytes).in_parts(parts));
         self.open();
-        Ok(Applied { outcome: Outcome::Sent { sequence, id }, changed: true, opened: true, parts })
+        Ok(Applied { outcome: Outcome::Sent { sequence, id }, opened: true, parts })
     }
 
     /// Takes up that the next message, of this number, was sent at this moment, with an id of its own or without.
@@ -304,7 +303,7 @@ impl State {
         receiving: &Receiving<'_>,
     ) -> Result<Applied, SqsError> {
         let (moment, until) = (receiving.moment, receiving.until);
-        let (changed, opened) = (!given.is_empty(), !given.is_empty() && until <= moment);
+        let opened = !given.is_empty() && until <= moment;
         let (mut handed, mut set_aside) = (Vec::with_capacity(given.len()), Vec::new());
         for one in given {
             match self.hand(one, receiving)? {
@@ -320,7 +319,7 @@ impl State {
             self.open();
         }
         let outcome = Outcome::Received { handed, set_aside, openings: self.openings };
-        Ok(Applied { outcome, changed, opened, parts: None })
+        Ok(Applied { outcome, opened, parts: None })
     }
 
     /// What the envelopes of these messages take that aren't kept with them: what the store has no room for is.
@@ -351,7 +350,7 @@ impl State {
         self.hide(receipt.sequence, receiving.until);
         let message = self.messages.get_mut(receipt.sequence).ok_or_else(misfit)?;
         let first = message.last.map_or(moment, |last| last.first);
-        let count = receipt.ordinal.saturating_sub(self.uncounted.count(receipt.sequence));
+        let count = receipt.ordinal.saturating_sub(self.older_messages.count(receipt.sequence));
         let is_old = receiving.horizon.is_some_and(|horizon| message.sent <= horizon);
         let is_dead = receiving.most.is_some_and(|most| count > u64::from(most));
         let is_due = receiving.due.is_some_and(|due| message.sent <= due);
@@ -361,9 +360,9 @@ impl State {
         self.attempts.forget_with(receipt.sequence);
         message.ordinal = receipt.ordinal;
         if matches!(receiving.reach, Reach::Uncounted) {
-            self.uncounted.add(receipt.sequence);
+            self.older_messages.add_uncounted(receipt.sequence);
         } else {
-            self.uncounted.end(receipt.sequence, false);
+            self.older_messages.end(receipt.sequence, false);
             message.last = Some(Handing { moment, first, touched: false });
         }
         let envelope = message.envelope.clone().unwrap_or_else(|| given.body.into());
@@ -381,7 +380,7 @@ impl State {
                 groups.remove(message.group, receipt.sequence, message.until());
             }
             self.attempts.forget_with(receipt.sequence);
-            self.uncounted.end(receipt.sequence, true);
+            self.older_messages.end(receipt.sequence, true);
             if !self.due.is_empty() {
                 self.due.remove(receipt.sequence);
             }
@@ -420,13 +419,18 @@ impl State {
     }
 
     /// Takes up a delayed message that a record of an older journal has.
-    pub fn add_older(&mut self, change: &TableChange, moment: Moment) {
-        let TableChange::Delayed(message) = change else { return };
+    pub fn sent_older(&mut self, message: &Arc<Delayed>, moment: Moment) {
         if let Some(call) = &message.call {
-            self.remember_delayed(call, message.id, moment);
+            self.remember_older_call(call, message.id, moment);
         }
-        self.older.add(message);
+        self.add_older(message);
         self.last_send = moment;
+    }
+
+    fn add_older(&mut self, message: &Arc<Delayed>) {
+        if !self.older.has(message.id) {
+            self.older.add(message);
+        }
     }
 
     /// Hides a message, if it is there.
@@ -453,6 +457,7 @@ impl State {
         self.forget_old_sends(now);
         self.attempts.forget_old(now);
         self.calls.forget_old(now);
+        self.older_messages.forget_old(now);
     }
 
     /// What the queue and its messages take of memory, in bytes; nothing once it is removed.
@@ -516,16 +521,6 @@ impl State {
         self.redrive.as_ref()
     }
 
-    /// Whether the queue is empty and remembers no deduplication id.
-    pub fn is_at_rest(&self, now: Moment) -> bool {
-        self.messages.is_empty() && self.older.count() == 0 && self.last_send + WINDOW <= now
-    }
-
-    /// How many messages were sent since the queue has its name in the store.
-    pub fn records(&self) -> u64 {
-        self.last_sequence - self.entry.base
-    }
-
     /// Has gone over to another name of the store, which counts from 1 again.
     fn go_over(&mut self) {
         self.last_sequence = self.entry.base;
@@ -534,7 +529,7 @@ impl State {
         self.own_ids = VecDeque::new();
         self.messages = Messages::default();
         self.groups = self.groups_of_delayed();
-        self.uncounted.clear();
+        self.older_messages.clear();
         self.envelope_bytes = 0;
         self.longest_envelope = 0;
         self.attempts.clear();

@@ -55,11 +55,6 @@ impl State {
         self.messages.get(sequence)?.source.clone()
     }
 
-    /// What a copy of a message takes, in bytes. Parts stay where they are.
-    pub fn bytes_of_copy(&self, sequence: u64) -> u64 {
-        self.messages.get(sequence).filter(|message| message.parts.is_none()).map_or(0, |message| message.bytes)
-    }
-
     /// Forgets the groups, if nobody needed them for a while.
     pub fn forget_groups(&mut self, now: Moment) {
         if self.delay == 0 && self.groups_needed + KEPT <= now {

@@ -116,7 +116,7 @@ impl State {
             visibility,
             sequence,
             group: message.group_id.as_deref()?.into(),
-            count: message.ordinal.saturating_sub(self.uncounted.count(sequence)),
+            count: message.ordinal.saturating_sub(self.older_messages.count(sequence)),
             first: message.last.map(|last| last.first),
             envelope: message.envelope.clone()?,
         })

@@ -19,7 +19,7 @@ impl State {
         }
         if let Some(message) = self.messages.get(receipt.sequence) {
             let last = message.last.ok_or(SqsError::ReceiptHandleIsInvalid)?;
-            let told = message.ordinal - self.uncounted.count_since(receipt.sequence);
+            let told = message.ordinal - self.older_messages.count_since(receipt.sequence);
             let is_last = receipt.ordinal == told;
             if receipt.ordinal > told || (is_last && handle.moment != last.moment) {
                 return Err(SqsError::ReceiptHandleIsInvalid);
@@ -39,13 +39,14 @@ impl State {
     pub fn has_expired(&self, receipt: Receipt, now: Moment) -> bool {
         let Some(message) = self.messages.get(receipt.sequence) else { return false };
         let is_last = message.last.is_some() && receipt.ordinal == message.ordinal;
-        is_last && (self.uncounted.count_since(receipt.sequence) > 0 || message.until() <= now)
+        is_last && (self.older_messages.count_since(receipt.sequence) > 0 || message.until() <= now)
     }
 
     /// Whether this is the receipt of the last handing of a message that is there.
     pub fn is_last(&self, receipt: Receipt) -> bool {
         let is_by_it = |message: &Message| message.last.is_some() && message.ordinal == receipt.ordinal;
-        self.messages.get(receipt.sequence).is_some_and(is_by_it) && self.uncounted.count_since(receipt.sequence) == 0
+        self.messages.get(receipt.sequence).is_some_and(is_by_it)
+            && self.older_messages.count_since(receipt.sequence) == 0
     }
 
     /// Whether each of these receipts is its message's last one, and none of them has ended.
@@ -70,7 +71,7 @@ impl State {
     /// The receipt by which the store knows the handing that `receipt` stands for: another one where only handings that
     /// don't count came behind it.
     pub fn last_receipt(&self, receipt: Receipt) -> Receipt {
-        let since = self.uncounted.count_since(receipt.sequence);
+        let since = self.older_messages.count_since(receipt.sequence);
         let Some(message) = self.messages.get(receipt.sequence).filter(|_| since > 0) else { return receipt };
         let is_current = (message.ordinal - since..=message.ordinal).contains(&receipt.ordinal);
         Receipt { ordinal: if is_current { message.ordinal } else { receipt.ordinal }, ..receipt }
@@ -87,7 +88,7 @@ impl State {
     /// was handed out after that and after the last change of the queue's attributes surely wasn't a client's.
     pub fn is_set_aside(&self, sequence: u64, created: Moment) -> bool {
         let Some(message) = self.messages.get(sequence) else { return false };
-        let count = message.ordinal.saturating_sub(self.uncounted.count(sequence));
+        let count = message.ordinal.saturating_sub(self.older_messages.count(sequence));
         let is_dead = self.redrive().is_some_and(|policy| count > u64::from(policy.most));
         is_dead && message.last.is_some_and(|last| last.moment > self.entry.modified.max(created))
     }
@@ -110,7 +111,7 @@ impl State {
         created: Option<Moment>,
         jumps: &Jumps,
     ) -> Option<Fate> {
-        if self.uncounted.count_since(sequence) > 0 {
+        if self.older_messages.count_since(sequence) > 0 {
             return Some(Fate::Early);
         }
         let handed = message.last.map(|last| last.moment).filter(|handed| *handed > self.entry.modified)?;

@@ -8,7 +8,7 @@ use crate::clock::Moment;
 use crate::limits::QUEUE_BYTES;
 use crate::move_tasks::{self, MoveTask};
 use crate::queues::ask::TableChange;
-use crate::queues::book::{Entry, Purging, QueueEntry, Removal, Size};
+use crate::queues::book::{Entry, Purging, QueueEntry, Removal};
 
 /// What an entry changed.
 #[derive(Clone, Copy, Debug, Default, PartialEq, Eq)]
@@ -48,7 +48,6 @@ impl State {
             TableChange::Task(task) => {
                 return Some(Entry::Task(entry.mark, move_tasks::merged(&self.tasks, task)));
             }
-            TableChange::GoneOver(store) => (entry.store, entry.base) = (*store, self.last_sequence),
             TableChange::Removed => {
                 return Some(Entry::Removed(Removal { name: entry.name, mark: entry.mark, at: moment }));
             }
@@ -64,7 +63,7 @@ impl State {
 
     /// The book of this number says how the queue stands, by an entry of this size; 0 stands for records of a journal up to
     /// version 7.
-    pub fn said(&mut self, entry: &QueueEntry, book: u64, size: Size) -> Said {
+    pub fn said(&mut self, entry: &QueueEntry, book: u64, size: u64) -> Said {
         let before = std::mem::replace(&mut self.entry, entry.clone());
         (self.said_in, self.entry_size) = (book, size);
         let said = Said {
@@ -79,10 +78,7 @@ impl State {
             self.redrive = entry.attributes.redrive();
             self.set_delay(delay_of_all(self.kind, &entry.attributes));
         }
-        let begins = matches!(said.purging, Some(Some(_)));
-        // In journals up to version 5 nothing says that a purge begins.
-        let is_whole = before.purging.is_none() && entry.purging.is_none() && before.purged != entry.purged;
-        if begins || is_whole {
+        if entry.purges(&before) {
             self.older.clear();
         }
         self.own_bytes = bytes_of_queue(&entry.attributes, &entry.tags);
@@ -90,7 +86,7 @@ impl State {
     }
 
     /// The book of this number says how a task stands, by an entry of this size.
-    pub fn said_of_task(&mut self, task: &MoveTask, book: u64, size: Size) {
+    pub fn said_of_task(&mut self, task: &MoveTask, book: u64, size: u64) {
         move_tasks::merge(&mut self.tasks, task);
         self.tasks_said_in.insert(task.id, (book, size));
         let tasks = &self.tasks;
@@ -111,20 +107,10 @@ impl State {
         tasks.chain((self.said_in != book).then_some(TableChange::Again(None))).collect()
     }
 
-    /// What the entries take that count of the queue.
-    pub fn size_of_entries(&self) -> Size {
+    /// What the entries take of memory that count of the queue, in bytes.
+    pub fn size_of_entries(&self) -> u64 {
         let of_tasks = self.tasks_said_in.values().map(|(_, size)| *size);
         of_tasks.chain([self.entry_size]).sum()
-    }
-
-    /// What the journal needs once more for what books say of the queue, and for the end of a purge that goes on; nothing
-    /// where no book says anything of it.
-    pub fn kept(&self) -> u64 {
-        if self.removed || self.said_in == 0 {
-            return 0;
-        }
-        let of_end = if self.entry.purging.is_some() { self.entry_size.journal } else { 0 };
-        self.size_of_entries().journal + of_end
     }
 
     /// Of a queue beside one that is being purged: which of its messages are being deleted, if any still are.

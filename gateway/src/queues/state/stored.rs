@@ -30,6 +30,7 @@ impl State {
             self.take_up_message(message);
         }
         self.groups = self.groups_of_delayed();
+        self.take_up_older(stored.older);
         for attempt in stored.attempts {
             self.take_up_attempt(&attempt, &texts);
         }
@@ -73,7 +74,8 @@ impl State {
             let (last, (group, envelope)) = (message.last.filter(|_| is_held)?, texts.get(sequence)?);
             let receipt = Receipt { sequence: *sequence, ordinal: *ordinal };
             let (moment, first, group) = (last.moment, last.first, group.to_string());
-            Some(Handed { receipt, count: *ordinal, moment, first, group, envelope: envelope.clone() })
+            let count = ordinal.saturating_sub(self.older_messages.count(*sequence));
+            Some(Handed { receipt, count, moment, first, group, envelope: envelope.clone() })
         };
         let handed: Option<Vec<_>> = entry.handed.iter().map(handed_by).collect();
         if let Some(handed) = handed {
@@ -119,7 +121,11 @@ impl State {
     pub fn told_by_bytes(&mut self, now: Moment) -> String {
         self.look_at_ages(now);
         let groups_needed = self.groups_needed;
-        let messages: Vec<_> = self.messages.from(0).map(|(sequence, message)| told_of(sequence, message)).collect();
+        let uncounted = |sequence| (self.older_messages.count(sequence), self.older_messages.count_since(sequence));
+        let told = |(sequence, message)| format!("{} {:?}", told_of(sequence, message), uncounted(sequence));
+        let messages: Vec<_> = self.messages.from(0).map(told).collect();
+        let ids: Vec<_> = self.own_ids.iter().filter(|(sequence, _)| *sequence >= self.first_recent()).collect();
+        let older = format!("{ids:?} {:?}", self.older.in_order());
         let next = self.next_up_to(u64::MAX, usize::MAX, now);
         (self.groups, self.groups_needed) = (self.groups_of_delayed(), groups_needed);
         // How many messages a task has moved is told as of its last entry.
@@ -129,7 +135,7 @@ impl State {
         let entry = self.entry.store.main().is_none().then_some(&self.entry);
         let of_entries = (self.said_in, self.entry_size, said_in);
         let sends = (self.last_sequence, &self.recent, self.left_ids, self.calls.told());
-        format!("{entry:?} {of_entries:?} {tasks:?} {sends:?} {:?} {next:?} {messages:?}", self.due.told())
+        format!("{entry:?} {of_entries:?} {tasks:?} {sends:?} {:?} {next:?} {messages:?} {older}", self.due.told())
     }
 }
 

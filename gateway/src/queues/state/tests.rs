@@ -6,7 +6,7 @@ use std::sync::Arc;
 use super::*;
 use crate::attributes::GivenAttributes;
 use crate::handles::Handle;
-use crate::queues::ask::{Delayed, StoreName};
+use crate::queues::ask::{Delayed, StoreName, TableChange};
 use crate::queues::book::{Entry, Purging};
 use crate::queues::{Queue, Queues};
 use crate::texts::{DedupId, QueueName};
@@ -26,7 +26,7 @@ fn state_of(name: &str) -> State {
 fn change(state: &mut State, change: &TableChange, moment: Moment) -> bool {
     match state.entry_after(change, 0, moment) {
         Some(Entry::Queue(entry)) => {
-            state.said(&entry, 1, Size::default());
+            state.said(&entry, 1, 0);
             true
         }
         _ => false,
@@ -192,7 +192,7 @@ fn a_delayed_message_is_due_until_it_has_a_copy() {
     [(1, 5000), (2, 6000), (3, 7000)].into_iter().for_each(|(place, due)| delay(&mut state, place, due, 1000));
     let due = |state: &State| [4999, 5000, 6000].map(|now| state.due(now, 9));
     assert_eq!(due(&state), [vec![], vec![1], vec![1, 2]]);
-    assert_eq!((state.count_due(6000), state.is_at_rest(WINDOW + 5000)), ([3, 2], false));
+    assert_eq!(state.count_due(6000), [3, 2]);
     state.has_copy(1);
     assert_eq!((due(&state), state.count_due(6000)), ([vec![], vec![], vec![2]], [2, 1]));
     delete(&mut state, 2, 6000);
@@ -215,10 +215,10 @@ fn a_delayed_message_of_an_older_journal_is_there_until_the_store_has_it() {
         let envelope = envelope(id, 1000).whole().to_string();
         let call = (id == 3).then(|| call.clone());
         let message = Delayed { id: Uuid::from_u128(id), due: 5000, call, envelope };
-        state.add_older(&TableChange::Delayed(Arc::new(message)), 1000);
+        state.sent_older(&Arc::new(message), 1000);
     }
     let ids = |state: &State| state.older_delayed().iter().map(|one| one.id.as_u128()).collect::<Vec<_>>();
-    assert_eq!((ids(&state), state.is_at_rest(WINDOW + 5000)), (vec![1, 2, 3], false));
+    assert_eq!(ids(&state), [1, 2, 3]);
     // That version sent it itself, when it was due.
     send_standard(&mut state, 1, 1000, Cause::Client, 5001);
     state.forget_older(Uuid::from_u128(2));
@@ -491,7 +491,7 @@ fn a_call_that_is_looked_up_when_it_is_old_counts_until_it_is_forgotten() {
     let (queues, name) = (Queues::default(), QueueName::parse("q").unwrap());
     let entry = QueueEntry::plain(StoreName(1), name, 1);
     let queue = Arc::new(Queue::new(&entry));
-    queues.said(0, &queue, &Entry::Queue(entry), 1, Size::default());
+    queues.said(0, &queue, &Entry::Queue(entry), 1, 0);
     let (group, call) = (GroupId::parse("g").unwrap(), DedupId::of_call(&[0; 32], None));
     let envelope = Envelope::Whole("{\"sent\":0}\nbody".into());
     let ask = Ask::Send { group, dedup: call.clone(), envelope, cause: Cause::Client };
@@ -508,7 +508,7 @@ fn what_is_said_of_a_task_that_has_ended_is_that_it_has() {
     let (destination, rate, failure, starter, status) = (None, None, None, None, Status::Running);
     let (id, up_to, to_move, moved, started) = (Uuid::from_u128(7), 9, 9, 3, 5);
     let task = MoveTask { id, destination, rate, up_to, to_move, moved, started, status, failure, starter };
-    state.said_of_task(&MoveTask { status: Status::Cancelled, ..task.clone() }, 1, Size::default());
+    state.said_of_task(&MoveTask { status: Status::Cancelled, ..task.clone() }, 1, 0);
     let said = state.entry_after(&TableChange::Task(MoveTask { moved: 4, ..task.clone() }), 0, 9);
     let expected = MoveTask { moved: 4, status: Status::Cancelled, ..task };
     assert_eq!(said, Some(Entry::Task(state.entry.mark, expected)));

@@ -29,7 +29,7 @@ impl Living {
         for shard in self.shards.all() {
             let tables = Tables { queues: queues.clone(), clock: clock.clone(), progress: Arc::clone(&progress) };
             removed.iter().for_each(|name| queues.saw_store_name(*name));
-            let mut replay = Replay::new(shard, Some((tables, known.clone())), removed.clone());
+            let mut replay = Replay::new(shard, tables, known.clone(), removed.clone());
             let mut answers = BytesMut::new();
             for (line, reply) in front {
                 let name = Record::read(line).unwrap().store_name().unwrap();

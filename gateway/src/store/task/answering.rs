@@ -1,10 +1,9 @@
-//! Answers: what the program said, what the journal keeps of it, and who is told.
+//! Answers: what the program said, and who is told.
 
 use super::entries::{Entry, Open, OpenAsk};
-use super::room::need_of;
+use super::room::adds;
 use super::{Ended, Task};
 use crate::errors::SqsError;
-use crate::journal::{Need, Record};
 use crate::lines::{self, OutputLine, StoreReply, NO_ROOM};
 use crate::queues::ask::{Ask, Outcome};
 use crate::store::{Answer, AnswerSender};
@@ -21,9 +20,9 @@ impl Task {
                     self.line = line;
                     self.refused(code)?;
                 }
-                OutputLine::Answer { client, number, reply, text, line } => {
+                OutputLine::Answer { client, number, reply, line, .. } => {
                     self.line = line;
-                    self.answered(client, number, reply, text)?;
+                    self.answered(client, number, reply)?;
                 }
             }
             self.finish_ready();
@@ -56,13 +55,14 @@ impl Task {
             Entry::Ask(asked) if asked.is_done => return Err(Ended::Full),
             Entry::Ask(asked) => {
                 self.close(&asked);
-                self.give_room_back(&asked);
-                self.finish(Err(refusal_for_room(need_of(&asked.ask))), sender);
+                self.admission.answered(asked.weight);
+                self.counters.count_lack_of_room();
+                self.finish(Err(refusal_for_room(adds(&asked.ask))), sender);
                 self.go_on_with(&asked, false)?;
             }
             // It is seen to answer all the same.
             Entry::Moment(_) if sender.is_some() => self.finish(Ok(Outcome::Done), sender),
-            Entry::Count { .. } => self.finish(Err(refusal_for_room(Need::Less)), sender),
+            Entry::Count { .. } => self.finish(Err(refusal_for_room(false)), sender),
             Entry::Moment(_) | Entry::Probe { .. } | Entry::Ready(_) => {}
         }
         Ok(())
@@ -75,7 +75,7 @@ impl Task {
         };
         (self.is_put_next, self.ends) = (true, 0);
         self.close(&asked);
-        self.give_room_back(&asked);
+        self.admission.answered(asked.weight);
         let start: String = asked.raw.get().chars().take(200).collect();
         // A client may have said what stands in it.
         tracing::warn!("cq refused a line ({code}): {start:?}");
@@ -83,7 +83,7 @@ impl Task {
         self.go_on_with(&asked, false)
     }
 
-    fn answered(&mut self, client: u32, number: u64, reply: StoreReply, text: &str) -> Result<(), Ended> {
+    fn answered(&mut self, client: u32, number: u64, reply: StoreReply) -> Result<(), Ended> {
         let is_answered = |entry: &Entry| match entry {
             Entry::Ask(asked) => (asked.client, asked.number) == (client, number),
             Entry::Moment(_) => number == 0,
@@ -98,7 +98,7 @@ impl Task {
                 self.close(&asked);
                 self.ends = 0;
                 self.complete(&mut asked);
-                let answer = self.apply_and_record(&asked, reply, text)?;
+                let answer = self.apply(&asked, reply);
                 let is_done = answer.is_ok();
                 self.finish(answer, sender);
                 self.go_on_with(&asked, is_done)
@@ -141,38 +141,11 @@ impl Task {
         }
     }
 
-    /// Applies the reply to the tables, and appends its record where something changed.
-    fn apply_and_record(&mut self, asked: &OpenAsk, reply: StoreReply, text: &str) -> Result<Answer, Ended> {
+    /// Applies the reply to the tables.
+    fn apply(&mut self, asked: &OpenAsk, reply: StoreReply) -> Answer {
         let applied = self.queues.apply_reply(self.shard.place(), &asked.queue, &asked.ask, reply, asked.moment);
-        self.give_room_back(asked);
-        Ok(match applied {
-            Ok((outcome, changed)) => {
-                if changed {
-                    self.append_record(|| Record::of_ask(asked.moment, &asked.ask, &asked.raw, text))?;
-                }
-                self.keep_for_books(&asked.ask);
-                Ok(outcome)
-            }
-            Err(error) => Err(error),
-        })
-    }
-
-    /// Has the journal keep space for what the books say by now.
-    fn keep_for_books(&self, ask: &Ask) {
-        if let (Some(journal), Ask::Say { .. } | Ask::Remove { .. }) = (&self.journal, ask) {
-            self.queues.keep_for_books(journal);
-        }
-    }
-
-    /// Adds a record to those that go to the journal next.
-    fn append_record<'r>(&mut self, record: impl FnOnce() -> Record<'r>) -> Result<(), Ended> {
-        if let Some(journal) = &self.journal {
-            let before = self.batch.records.len();
-            record().append(&mut self.batch.records)?;
-            self.batch.count += 1;
-            journal.use_room((self.batch.records.len() - before) as u64);
-        }
-        Ok(())
+        self.admission.answered(asked.weight);
+        applied
     }
 
     /// The program has answered this one.
@@ -185,13 +158,6 @@ impl Task {
     /// The program doesn't have this one any more.
     pub(super) fn forget_open(&mut self, ask: &Ask) {
         self.open_visibility_changes -= usize::from(matches!(ask, Ask::ChangeVisibility { .. }));
-    }
-
-    pub(super) fn give_room_back(&self, asked: &OpenAsk) {
-        self.admission.answered(asked.weight);
-        if let Some(journal) = &self.journal {
-            journal.give_back(asked.room);
-        }
     }
 
     /// Finishes the entries at the front that need no answer of the store.
@@ -213,27 +179,22 @@ impl Task {
 
     pub(super) fn finish_job(&mut self, sender: Option<AnswerSender>) {
         if let Some(sender) = sender {
-            self.batch.finished.push((sender, std::mem::take(&mut self.answers)));
+            self.finished.push((sender, std::mem::take(&mut self.answers)));
         }
     }
 
-    /// Lets the answers go that are there: by the journal, where there is one.
-    pub(super) fn hand_over(&mut self) {
-        if self.batch.finished.is_empty() && self.batch.records.is_empty() {
-            return;
-        }
-        match &self.journal {
-            Some(journal) => journal.hand_over(&mut self.batch),
-            None => self.batch.send_answers(),
-        }
+    /// Lets the answers go that are there.
+    pub(super) fn send_answers(&mut self) {
+        self.finished.drain(..).for_each(|(sender, answers)| sender.send(answers));
     }
 }
 
-/// What is told of a request for which a program's journal has no room.
-fn refusal_for_room(need: Need) -> SqsError {
-    let message = "The journal is full.";
-    match need {
-        Need::More => SqsError::OverLimit(message.into()),
-        _ => SqsError::ServiceUnavailable(message.into()),
+/// What is told of a request for which a program's journal has no room. `adds`: it adds something that stays.
+fn refusal_for_room(adds: bool) -> SqsError {
+    let message = "The journal is full.".into();
+    if adds {
+        SqsError::OverLimit(message)
+    } else {
+        SqsError::ServiceUnavailable(message)
     }
 }

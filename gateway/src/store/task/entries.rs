@@ -4,7 +4,6 @@ use std::sync::Arc;
 
 use serde_json::value::RawValue;
 
-use super::moving::Original;
 use crate::clock::Moment;
 use crate::queues::ask::Ask;
 use crate::queues::Queue;
@@ -41,23 +40,19 @@ pub(super) struct OpenAsk {
     pub(super) moment: Moment,
     pub(super) client: u32,
     pub(super) number: u64,
-    /// Bytes that were set aside for its record.
-    pub(super) room: u64,
     /// Bytes of memory that it was counted with.
     pub(super) weight: u64,
     pub(super) ends: u32,
     /// The program has done it, and was started again before it was answered.
     pub(super) is_done: bool,
-    /// Of a copy: what it is one of.
-    pub(super) original: Option<Original>,
+    /// Of a copy: the sequence number of the message that it is one of.
+    pub(super) original: Option<u64>,
 }
 
 /// What came of trying to start an operation.
 pub(super) enum StartOutcome {
     /// Its answer is due.
     Open(Entry),
-    /// The journal has to find space first.
-    LacksRoom(Arc<Queue>, Operation),
     /// Another operation, whose answer is still due, decides what is to be answered.
     WaitsForAnswer(Arc<Queue>, Operation),
     /// Several answers are due.

@@ -1,5 +1,5 @@
 //! The task that owns the program's pipe: it writes all asks that wait with one call, reads answers in large pieces,
-//! and hands each to who asked, when the journal has what it rests on.
+//! and hands each to who asked.
 
 mod answering;
 mod clients;
@@ -16,18 +16,15 @@ use std::time::Duration;
 use bytes::BytesMut;
 use thiserror::Error;
 use tokio::io::{AsyncReadExt, AsyncWriteExt};
-use tokio::sync::{mpsc, oneshot, watch};
+use tokio::sync::mpsc;
 
 use super::admission::Admission;
 use super::figures::Counters;
-use super::replay::{replay, ReplayError};
-use super::told::{self, Keeping, ToldError};
-use super::{Answers, Hold, Holds, Job, Operation, Store};
+use super::told::{self, ToldError};
+use super::{AnswerSender, Answers, Hold, Holds, Job, Operation, Store};
 use crate::clock::Clock;
 use crate::cq::{Cq, CqError, KeptFile};
 use crate::errors::SqsError;
-use crate::journal::{CommitBatch, Journal, JournalError};
-use crate::limits::Bounds;
 use crate::lines::BadOutput;
 use crate::queues::shards::{Shard, Shards};
 use crate::queues::{Queue, Queues};
@@ -35,7 +32,7 @@ use crate::store_bytes::{Part, StoreReader};
 use crate::texts::STORE_LIMIT;
 use clients::{Clients, CLIENTS};
 use entries::{Entry, Open, OpenAsk, Pending};
-use moving::{Moving, Original};
+use moving::Moving;
 use outgoing::Outgoing;
 
 /// Why the store doesn't go on.
@@ -47,14 +44,13 @@ pub enum Ended {
     BadOutput(#[from] BadOutput),
     #[error("cq answered client {client}'s request {number}, which isn't the next one")]
     NotNext { client: u32, number: u64 },
-    #[error(transparent)]
-    Replay(#[from] ReplayError),
-    #[error(transparent)]
-    Journal(#[from] JournalError),
     #[error("a line for cq can't be written: {0}")]
     Line(#[from] serde_json::Error),
     #[error(transparent)]
     Told(#[from] ToldError),
+    /// All copies of the store are gone.
+    #[error("nobody asks any more")]
+    NobodyAsks,
     /// What was asked is done, and its answer can't be had.
     #[error("cq has no room left to give an answer: its journal is full to the last byte")]
     Full,
@@ -80,7 +76,6 @@ struct Task {
     cq: Cq,
     queues: Arc<Queues>,
     clock: Arc<Clock>,
-    journal: Option<Journal>,
     /// Where the program keeps its lines, if it does.
     file: Option<KeptFile>,
     /// The number of the last line that the program has counted, as it tells it.
@@ -102,14 +97,12 @@ struct Task {
     incoming: BytesMut,
     /// The answers of the job at the front that are there.
     answers: Answers,
-    batch: CommitBatch,
-    /// What waits is not asked before the journal has found space.
-    lacks_room: bool,
+    /// The jobs whose answers are all there.
+    finished: Vec<(AnswerSender, Answers)>,
     /// What waits is not asked before something else is answered.
     waits_for_answer: bool,
     /// How many changes of timeouts are with the program.
     open_visibility_changes: usize,
-    grown: Option<watch::Receiver<()>>,
     ends: u32,
 }
 
@@ -123,28 +116,27 @@ pub struct Start {
     pub cqs: Vec<Cq>,
     pub queues: Arc<Queues>,
     pub clock: Arc<Clock>,
-    pub journal: Option<Journal>,
     /// Of programs that keep their lines: where, and how they began.
     pub kept: Option<Kept>,
-    pub bounds: Bounds,
+    /// The bound of memory, in bytes.
+    pub memory: Option<u64>,
 }
 
 /// What is known of programs that keep their lines.
 pub struct Kept {
-    pub keeping: Keeping,
-    /// Of each: the number of the last line that it counted, and the largest number of a request.
+    pub files: Vec<KeptFile>,
+    /// Of each, by its place: the number of the last line that it counted, and the largest number of a request.
     pub begun: Vec<(u64, u64)>,
 }
 
-/// Starts the tasks, one for each shard. What the second value gives is why the first of them ended.
-pub fn start(start: Start) -> (Store, oneshot::Receiver<Ended>) {
-    let admission = Arc::new(Admission::new(start.queues.clone(), start.bounds.memory));
-    if let Some(journal) = &start.journal {
-        journal.set_bound(start.bounds.journal);
-        start.queues.keep_for_books(journal);
-    }
+/// Why tasks have ended, one after the other. It comes to its end once all of them and their programs have.
+pub type Ends = mpsc::UnboundedReceiver<Ended>;
+
+/// Starts the tasks, one for each shard.
+pub fn start(start: Start) -> (Store, Ends) {
+    let admission = Arc::new(Admission::new(start.queues.clone(), start.memory));
     let counters = Arc::new(Counters::default());
-    let (ended, mut reasons) = mpsc::unbounded_channel();
+    let (ended, reasons) = mpsc::unbounded_channel();
     let (mut jobs, is_kept) = (Vec::new(), start.kept.is_some());
     for (cq, shard) in start.cqs.into_iter().zip(start.shards.all()) {
         let (queue, waiting) = mpsc::unbounded_channel();
@@ -159,8 +151,7 @@ pub fn start(start: Start) -> (Store, oneshot::Receiver<Ended>) {
             cq,
             queues: start.queues.clone(),
             clock: start.clock.clone(),
-            journal: start.journal.clone(),
-            file: start.kept.as_ref().map(|kept| kept.keeping.file(start.shards, shard.place())),
+            file: start.kept.as_ref().and_then(|kept| kept.files.get(shard.place()).cloned()),
             line,
             is_put_next: false,
             admission: admission.clone(),
@@ -175,17 +166,17 @@ pub fn start(start: Start) -> (Store, oneshot::Receiver<Ended>) {
             out: Outgoing::default(),
             incoming: BytesMut::new(),
             answers: Vec::new(),
-            batch: CommitBatch::default(),
-            lacks_room: false,
+            finished: Vec::new(),
             waits_for_answer: false,
             open_visibility_changes: 0,
-            grown: start.journal.as_ref().map(Journal::grown),
             ends: 0,
         };
         let ended = ended.clone();
         tokio::spawn(async move {
+            let why = task.run(waiting).await;
+            drop(task);
             // Where nobody waits for it any more, another task has ended before.
-            let _ = ended.send(task.run(waiting).await);
+            let _ = ended.send(why);
         });
     }
     let store = Store {
@@ -193,18 +184,11 @@ pub fn start(start: Start) -> (Store, oneshot::Receiver<Ended>) {
         shards: start.shards,
         queues: start.queues,
         clock: start.clock,
-        journal: start.journal,
         is_kept,
         admission,
         counters,
     };
-    let (first, why) = oneshot::channel();
-    tokio::spawn(async move {
-        if let Some(reason) = reasons.recv().await {
-            let _ = first.send(reason);
-        }
-    });
-    (store, why)
+    (store, reasons)
 }
 
 impl Task {
@@ -214,16 +198,11 @@ impl Task {
                 Ok(()) => {}
                 Err(ended) => {
                     let gone = matches!(ended, Ended::Cq(_) | Ended::BadOutput(_) | Ended::NotNext { .. });
-                    let is_kept = self.journal.is_some() || self.file.is_some();
-                    if !gone || !is_kept || self.ends >= MOST_ENDS_IN_A_ROW {
+                    let Some(file) = self.file.clone().filter(|_| gone && self.ends < MOST_ENDS_IN_A_ROW) else {
                         return ended;
-                    }
-                    tracing::error!("{ended}");
-                    let begun = match self.file.clone() {
-                        Some(file) => self.start_again_on(&file).await,
-                        None => self.start_again().await,
                     };
-                    if let Err(ended) = begun {
+                    tracing::error!("{ended}");
+                    if let Err(ended) = self.start_again_on(&file).await {
                         return ended;
                     }
                 }
@@ -235,7 +214,7 @@ impl Task {
     async fn turn(&mut self, jobs: &mut mpsc::UnboundedReceiver<Job>) -> Result<(), Ended> {
         self.start_pending()?;
         self.finish_ready();
-        self.hand_over();
+        self.send_answers();
         self.count_open();
         self.cq.output.is_awaited = !self.open.is_empty();
         tokio::select! {
@@ -253,11 +232,8 @@ impl Task {
                 // The end of its output tells how it ended.
                 Err(_) => self.out.clear(),
             },
-            () = grown(self.grown.as_mut()), if self.lacks_room => self.lacks_room = false,
             job = jobs.recv(), if self.pending.len() < 4 * CLIENTS as usize => {
-                let Some(job) = job else {
-                    return Err(CqError::Gone("nobody asks any more".into()).into());
-                };
+                let Some(job) = job else { return Err(Ended::NobodyAsks) };
                 self.take(job);
                 // Tasks that are ready now have their asks in the same write.
                 tokio::task::yield_now().await;
@@ -328,33 +304,13 @@ impl Task {
         }
     }
 
-    /// Starts the program again, brings it to where the journal is, and asks what is open once more.
-    async fn start_again(&mut self) -> Result<(), Ended> {
-        let Some(journal) = self.journal.clone() else { return Ok(()) };
-        self.ends += 1;
-        self.counters.count_restart();
-        tokio::time::sleep(pause(self.ends)).await;
-        self.hand_over();
-        self.cq.stop().await;
-        journal.wait_until_durable().await;
-        self.cq = Cq::start(&self.program)?.with_patience(self.patience);
-        replay(&mut self.cq, journal.records()?, self.shard, None).await?;
-        self.incoming.clear();
-        self.out.clear();
-        self.clients = Clients::new();
-        self.waits_for_answer = false;
-        self.ask_all_again(Task::ask_again)?;
-        tracing::warn!("cq was started again, and is where the journal is");
-        Ok(())
-    }
-
     /// Starts a program again that keeps its lines, and asks what is open once more, as it was asked the first time: what
     /// was done by then has its kept reply. So the tables stay what they are.
     async fn start_again_on(&mut self, file: &KeptFile) -> Result<(), Ended> {
         self.ends += 1;
         self.counters.count_restart();
         tokio::time::sleep(pause(self.ends)).await;
-        self.hand_over();
+        self.send_answers();
         self.cq.stop().await;
         let (mut reader, mut numbers) = (StoreReader::default(), HashMap::new());
         let mut take = |chunk: &[u8]| {
@@ -371,17 +327,17 @@ impl Task {
         self.out.clear();
         self.waits_for_answer = false;
         let is_done = |asked: &OpenAsk| numbers.get(&asked.client) == Some(&asked.number);
-        self.ask_all_again(|task, entry| task.repeat(entry, is_done))?;
+        self.ask_all_again(is_done)?;
         tracing::warn!("cq was started again, and is where its journal is");
         Ok(())
     }
 
     /// Asks what is open once more, in its order, as far as that isn't given up.
-    fn ask_all_again(&mut self, ask: impl Fn(&mut Task, Entry) -> Result<Again, Ended>) -> Result<(), Ended> {
+    fn ask_all_again(&mut self, is_done: impl Fn(&OpenAsk) -> bool) -> Result<(), Ended> {
         let mut given_up = None;
         let mut copies_given_up = Vec::new();
         for open in std::mem::take(&mut self.open) {
-            let entry = match ask(self, open.entry)? {
+            let entry = match self.repeat(open.entry, &is_done)? {
                 Again::Open(entry) => entry,
                 Again::GivenUp(queue, original) => {
                     given_up = Some(queue);
@@ -402,33 +358,18 @@ impl Task {
         Ok(())
     }
 
-    /// Asks once more under the same number. What the program has done isn't given up: it has its kept reply.
+    /// Asks once more, under the same number. What the program has done isn't given up: it has its kept reply.
     fn repeat(&mut self, entry: Entry, is_done: impl Fn(&OpenAsk) -> bool) -> Result<Again, Ended> {
-        let Entry::Ask(mut asked) = entry else { return self.ask_again(entry) };
-        asked.ends += 1;
-        asked.is_done = is_done(&asked);
-        if asked.ends >= MOST_ENDS && !asked.is_done {
-            self.clients.give_back(asked.client);
-            self.forget_open(&asked.ask);
-            self.give_room_back(&asked);
-            return Ok(Again::GivenUp(asked.queue, asked.original));
-        }
-        self.write(&asked)?;
-        Ok(Again::Open(Entry::Ask(asked)))
-    }
-
-    fn ask_again(&mut self, entry: Entry) -> Result<Again, Ended> {
         Ok(Again::Open(match entry {
             Entry::Ask(mut asked) => {
                 asked.ends += 1;
-                if asked.ends >= MOST_ENDS {
+                asked.is_done = is_done(&asked);
+                if asked.ends >= MOST_ENDS && !asked.is_done {
+                    self.clients.give_back(asked.client);
                     self.forget_open(&asked.ask);
-                    self.give_room_back(&asked);
+                    self.admission.answered(asked.weight);
                     return Ok(Again::GivenUp(asked.queue, asked.original));
                 }
-                self.last_number += 1;
-                asked.number = self.last_number;
-                asked.client = self.clients.take(asked.ask.reads_parts()).unwrap_or(CLIENTS);
                 self.write(&asked)?;
                 Entry::Ask(asked)
             }
@@ -451,14 +392,7 @@ impl Task {
 enum Again {
     Open(Entry),
     /// It was open at an end before, too. It was asked of this queue, and may be a copy.
-    GivenUp(Arc<Queue>, Option<Original>),
-}
-
-async fn grown(grown: Option<&mut watch::Receiver<()>>) {
-    if let Some(grown) = grown {
-        // The journal doesn't end before the task.
-        let _ = grown.changed().await;
-    }
+    GivenUp(Arc<Queue>, Option<u64>),
 }
 
 /// Starts wait longer each time, up to five seconds. The first one doesn't wait.

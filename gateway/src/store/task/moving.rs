@@ -1,7 +1,7 @@
 //! Moves: copies go to another queue of the program, and behind them their originals are deleted.
 //!
-//! Between the copies and the deletions nothing else is asked. So of what the program was asked, and of what the journal
-//! has, a front holds both, or a copy that nobody can have touched, or neither.
+//! Between the copies and the deletions nothing else is asked. So a front of what the program was asked holds both, or a copy
+//! that nobody can have touched, or neither.
 
 use std::sync::Arc;
 
@@ -9,36 +9,23 @@ use serde_json::value::RawValue;
 
 use super::clients::CLIENTS;
 use super::entries::{Entry, Open, OpenAsk, StartOutcome};
-use super::room::{bytes_of, need_of};
 use super::starting::stamped;
 use super::{Ended, Task};
 use crate::clock::Moment;
 use crate::errors::SqsError;
-use crate::journal::Need;
 use crate::lines::AskFields;
 use crate::queues::ask::Ask;
 use crate::queues::Queue;
 use crate::store::{AnswerSender, Copy, Operation};
-
-/// What the record of a deletion takes at most.
-const DELETION_BYTES: u64 = 640;
 
 /// Copies that aren't all answered yet.
 pub(super) struct Moving {
     source: Arc<Queue>,
     /// How many aren't.
     left: usize,
-    /// The originals of those that are there.
-    copied: Vec<Original>,
+    /// The sequence numbers of the originals of those that are there.
+    copied: Vec<u64>,
     sender: Option<AnswerSender>,
-}
-
-/// Of which message a copy is one.
-#[derive(Clone, Copy, Debug)]
-pub(super) struct Original {
-    sequence: u64,
-    /// Bytes that were set aside for the record of its deletion.
-    room: u64,
 }
 
 impl Task {
@@ -65,44 +52,13 @@ impl Task {
         let copies: Vec<_> =
             copies.into_iter().map(|copy| Copy { ask: stamped(copy.ask, &target, moment), ..copy }).collect();
         for copy in &copies {
-            let raw = serde_json::value::to_raw_value(&AskFields::of(store, base, &copy.ask))?;
-            let rooms = match self.set_aside(&copy.ask, bytes_of(&raw)) {
-                Ok(Some(rooms)) => rooms,
-                refused => {
-                    self.give_all_back(&asked);
-                    return Ok(match refused {
-                        Ok(_) => StartOutcome::LacksRoom(source, Operation::Move { target, copies }),
-                        Err(error) => StartOutcome::ready(Err(error)),
-                    });
-                }
-            };
-            asked.push((raw, rooms));
+            asked.push(serde_json::value::to_raw_value(&AskFields::of(store, base, &copy.ask))?);
         }
         self.moving = Some(Moving { source, left: copies.len(), copied: Vec::new(), sender: sender.take() });
-        for (copy, (raw, [room, of_deletion])) in copies.into_iter().zip(asked) {
-            let original = Some(Original { sequence: copy.sequence, room: of_deletion });
-            self.begin(target.clone(), copy.ask, raw, moment, room, original)?;
+        for (copy, raw) in copies.into_iter().zip(asked) {
+            self.begin(target.clone(), copy.ask, raw, moment, Some(copy.sequence))?;
         }
         Ok(StartOutcome::Begun)
-    }
-
-    /// Sets space of the journal aside for a copy and for the deletion of its original; none if it must be asked for.
-    fn set_aside(&self, copy: &Ask, bytes: u64) -> Result<Option<[u64; 2]>, SqsError> {
-        let Some(journal) = &self.journal else { return Ok(Some([0, 0])) };
-        let Some(room) = journal.set_aside(need_of(copy), bytes)? else { return Ok(None) };
-        match journal.set_aside(Need::Delete, DELETION_BYTES) {
-            Ok(Some(of_deletion)) => Ok(Some([room, of_deletion])),
-            refused => {
-                journal.give_back(room);
-                refused.map(|_| None)
-            }
-        }
-    }
-
-    fn give_all_back<T>(&self, asked: &[(T, [u64; 2])]) {
-        if let Some(journal) = &self.journal {
-            asked.iter().flat_map(|(_, rooms)| rooms).for_each(|room| journal.give_back(*room));
-        }
     }
 
     /// Asks the program for a copy, or for the deletion of an original.
@@ -112,28 +68,24 @@ impl Task {
         ask: Ask,
         raw: Box<RawValue>,
         moment: Moment,
-        room: u64,
-        original: Option<Original>,
+        original: Option<u64>,
     ) -> Result<(), Ended> {
         // There are as many free clients as copies, and a copy that is answered frees its own.
         let client = self.clients.take(false).unwrap_or(CLIENTS);
         self.last_number += 1;
         let number = self.last_number;
-        let asked =
-            OpenAsk { queue, ask, raw, moment, client, number, room, weight: 0, ends: 0, is_done: false, original };
+        let asked = OpenAsk { queue, ask, raw, moment, client, number, weight: 0, ends: 0, is_done: false, original };
         self.write(&asked)?;
         self.open.push_back(Open { entry: Entry::Ask(Box::new(asked)), sender: None });
         Ok(())
     }
 
     /// A copy was answered, or given up. Behind the last one the originals go.
-    pub(super) fn copy_answered(&mut self, original: Original, is_there: bool) -> Result<(), Ended> {
+    pub(super) fn copy_answered(&mut self, original: u64, is_there: bool) -> Result<(), Ended> {
         let Some(moving) = &mut self.moving else { return Ok(()) };
         moving.left -= 1;
         if is_there {
             moving.copied.push(original);
-        } else if let Some(journal) = &self.journal {
-            journal.give_back(original.room);
         }
         if moving.left == 0 {
             self.delete_originals()?;
@@ -150,16 +102,11 @@ impl Task {
         };
         let mut is_begun = false;
         for original in copied {
-            let receipt = source.state().last_receipt_of(original.sequence);
-            let Some(receipt) = receipt else {
-                if let Some(journal) = &self.journal {
-                    journal.give_back(original.room);
-                }
-                continue;
-            };
+            let receipt = source.state().last_receipt_of(original);
+            let Some(receipt) = receipt else { continue };
             let ask = Ask::Delete { receipt, by_client: false };
             let raw = serde_json::value::to_raw_value(&AskFields::of(store, base, &ask))?;
-            self.begin(source.clone(), ask, raw, moment, original.room, None)?;
+            self.begin(source.clone(), ask, raw, moment, None)?;
             is_begun = true;
         }
         match self.open.back_mut().filter(|_| is_begun) {

@@ -5,17 +5,15 @@ use std::sync::Arc;
 use serde_json::value::RawValue;
 
 use super::entries::{Entry, Open, OpenAsk, Pending, StartOutcome};
-use super::room::{bytes_with_end, need_of, need_of_change};
 use super::{Ended, Task, PIECE};
 use crate::clock::Moment;
 use crate::errors::SqsError;
 use crate::handles::Receipt;
-use crate::journal::Need;
 use crate::lines::{self, AskFields};
 use crate::queues::ask::{Ask, Cause, Outcome, StoreName, TableChange};
 use crate::queues::book;
 use crate::queues::{Queue, State};
-use crate::store::{being_asked, Answer, AnswerSender, Operation};
+use crate::store::{Answer, AnswerSender, Operation};
 use crate::texts::{QueueKind, STORE_LIMIT};
 
 impl Task {
@@ -32,7 +30,7 @@ impl Task {
                     _ => StartOutcome::ready(Err(without_delays(&queue))),
                 },
                 (Some(queue), Some(Operation::Change(change))) => self.start_change(queue, change)?,
-                (Some(queue), Some(Operation::Say(entry))) => self.start_saying(queue, entry, Need::Free, 0)?,
+                (Some(queue), Some(Operation::Say(entry))) => self.start_saying(queue, entry, 0)?,
                 (Some(queue), Some(Operation::Count)) => StartOutcome::Open(self.count(queue)?),
                 (Some(queue), Some(Operation::Move { target, copies })) => {
                     self.start_move(queue, target, copies, &mut sender)?
@@ -46,10 +44,6 @@ impl Task {
             match started {
                 StartOutcome::Open(entry) => self.open.push_back(Open { entry, sender }),
                 StartOutcome::Begun => {}
-                StartOutcome::LacksRoom(queue, operation) => {
-                    self.put_back(queue, operation, sender);
-                    self.lacks_room = true;
-                }
                 StartOutcome::WaitsForAnswer(queue, operation) => {
                     self.put_back(queue, operation, sender);
                     self.waits_for_answer = true;
@@ -60,8 +54,8 @@ impl Task {
     }
 
     fn may_start(&self) -> bool {
-        let is_kept = self.lacks_room || self.waits_for_answer || self.moving.is_some();
-        !is_kept && self.clients.has(false) && self.out.bytes.len() < PIECE
+        let has_to_wait = self.waits_for_answer || self.moving.is_some();
+        !has_to_wait && self.clients.has(false) && self.out.bytes.len() < PIECE
     }
 
     fn put_back(&mut self, queue: Arc<Queue>, operation: Operation, sender: Option<AnswerSender>) {
@@ -109,8 +103,7 @@ impl Task {
             Err(error) => return ready(Err(error)),
         };
         let raw = serde_json::value::to_raw_value(&AskFields::of(store, base, &ask))?;
-        let need = need_of(&ask);
-        self.ask_admitted(queue, ask, raw, need, moment, weight)
+        self.ask_admitted(queue, ask, raw, moment, weight)
     }
 
     fn ask_admitted(
@@ -118,11 +111,10 @@ impl Task {
         queue: Arc<Queue>,
         ask: Ask,
         raw: Box<RawValue>,
-        need: Need,
         moment: Moment,
         weight: u64,
     ) -> Result<StartOutcome, Ended> {
-        match self.ask_with_room(queue, ask, raw, need, moment, weight)? {
+        match self.ask_free_client(queue, ask, raw, moment, weight)? {
             started @ StartOutcome::Open(Entry::Ask(_)) => Ok(started),
             other => {
                 self.admission.answered(weight);
@@ -131,12 +123,11 @@ impl Task {
         }
     }
 
-    fn ask_with_room(
+    fn ask_free_client(
         &mut self,
         queue: Arc<Queue>,
         ask: Ask,
         raw: Box<RawValue>,
-        need: Need,
         moment: Moment,
         weight: u64,
     ) -> Result<StartOutcome, Ended> {
@@ -144,16 +135,6 @@ impl Task {
         if !self.clients.has(ask.reads_parts()) {
             return Ok(StartOutcome::WaitsForAnswer(queue, ask.into()));
         }
-        let room = match &self.journal {
-            None => 0,
-            // It has no record.
-            Some(_) if ask.reads_parts() => 0,
-            Some(journal) => match journal.set_aside(need, bytes_with_end(&ask, &raw)) {
-                Ok(Some(room)) => room,
-                Ok(None) => return Ok(StartOutcome::LacksRoom(queue, ask.into())),
-                Err(error) => return ready(Err(error)),
-            },
-        };
         let Some(client) = self.clients.take(ask.reads_parts()) else {
             return ready(Err(SqsError::InternalFailure("No client is free.".into())));
         };
@@ -166,7 +147,6 @@ impl Task {
             moment,
             client,
             number: self.last_number,
-            room,
             weight,
             ends: 0,
             is_done: false,
@@ -264,8 +244,7 @@ impl Task {
             Ok(weight) => weight,
             Err(error) => return Ok(StartOutcome::ready(Err(error))),
         };
-        Ok(match self.start_saying(queue, entry, need_of_change(&change), weight)? {
-            StartOutcome::LacksRoom(queue, _) => StartOutcome::LacksRoom(queue, change.into()),
+        Ok(match self.start_saying(queue, entry, weight)? {
             StartOutcome::WaitsForAnswer(queue, _) => StartOutcome::WaitsForAnswer(queue, change.into()),
             other => other,
         })
@@ -279,27 +258,21 @@ impl Task {
         })
     }
 
-    fn start_saying(
-        &mut self,
-        queue: Arc<Queue>,
-        entry: book::Entry,
-        need: Need,
-        weight: u64,
-    ) -> Result<StartOutcome, Ended> {
+    fn start_saying(&mut self, queue: Arc<Queue>, entry: book::Entry, weight: u64) -> Result<StartOutcome, Ended> {
         let Some(book) = self.queues.books().current(self.shard.place()) else {
             self.admission.answered(weight);
-            return Ok(StartOutcome::ready(Err(being_asked())));
+            return Ok(StartOutcome::ready(Err(without_book())));
         };
         let text = entry.text()?;
         if text.len() > STORE_LIMIT {
-            // So long may be what an older journal has, which keeps it.
+            // So long may be what an older journal has.
             self.admission.answered(weight);
             let message = "The queue's attributes and tags are too long.";
             return Ok(StartOutcome::ready(Err(SqsError::InvalidParameterValue(message.into()))));
         }
         let ask = Ask::Say { book, entry: Arc::new(entry), text };
         let raw = serde_json::value::to_raw_value(&AskFields::of(StoreName::of_book(book), 0, &ask))?;
-        self.ask_admitted(queue, ask, raw, need, self.clock.now(), weight)
+        self.ask_admitted(queue, ask, raw, self.clock.now(), weight)
     }
 }
 
@@ -327,6 +300,11 @@ pub(super) fn stamped(mut ask: Ask, queue: &Queue, moment: Moment) -> Ask {
 /// Whether this sends a message of an older journal that a purge has taken meanwhile.
 fn is_purged(ask: &Ask, queue: &Queue) -> bool {
     matches!(ask, Ask::Send { cause: Cause::Older(id), .. } if !queue.state().has_older(*id))
+}
+
+/// Why no book can say anything.
+fn without_book() -> SqsError {
+    SqsError::ServiceUnavailable("The journal has had no room for a book so far.".into())
 }
 
 /// Why nothing can be sent to a queue with a delay.

@@ -1,4 +1,4 @@
-//! The records of a journal: one for each request that changed something, a line of JSON each.
+//! The records of a journal of an earlier version: one for each request that changed something, a line of JSON each.
 
 use std::borrow::Cow;
 use std::collections::BTreeMap;
@@ -121,11 +121,6 @@ impl<'a> Record<'a> {
     pub fn of_change(clock: Moment, queue: StoreName, change: &TableChange) -> Record<'a> {
         let queue = Some(queue.text().into());
         Record { clock, queue, change: Some(change.clone()), ..Record::default() }
-    }
-
-    /// The record of a start that found the clock far ahead.
-    pub fn of_jump(clock: Moment, uncounted: u64) -> Record<'static> {
-        Record { clock, uncounted: Some(uncounted), ..Record::default() }
     }
 
     /// Appends the record's line.

@@ -6,29 +6,23 @@ use std::io;
 use serde::{Deserialize, Serialize};
 use thiserror::Error;
 
-use super::disk::{Folder, Segment};
 use super::frame::{self, Frame};
 use super::record::Record;
+use super::Segments;
 use crate::queues::ask::StoreName;
 use crate::queues::shards::{Shards, HASH};
 
 /// Why a journal can't be used.
 #[derive(Clone, Debug, PartialEq, Eq, Error)]
-pub enum JournalError {
+pub enum OlderError {
     #[error("{0}")]
     Io(String),
-    #[error("there is no folder {folder} for the journal {path}")]
-    NoFolder { path: String, folder: String },
-    #[error("{0} is a folder: a journal is named by a file in one, as {0}/journal")]
-    IsFolder(String),
     #[error("{0} is in use by another process")]
     InUse(String),
     #[error("{0} is no journal: it doesn't begin as one")]
     NoJournal(String),
     #[error("{0} is a journal of version {1}, and this gateway reads versions 1 to 8")]
     NewerVersion(String, u32),
-    #[error("the journal of version 1 stays as it is: written anew it takes {bytes} bytes more of its disk. {why}")]
-    NotConverted { bytes: usize, why: String },
     #[error("segment {segment} of the journal is damaged at byte {place}, and there are good commits behind it")]
     Damaged { segment: u64, place: u64 },
     #[error("segment {0} of the journal is missing")]
@@ -47,24 +41,18 @@ pub enum JournalError {
          this is a copy that lacks something"
     )]
     Lacking { segment: u64, needed: u64, last: u64 },
-    #[error("{0} is there: a copy needs a name that nothing has")]
-    IsThere(String),
-    #[error("the journal has {found} records, and {written} were written")]
-    OtherCount { found: u64, written: u64 },
-    #[error("{0}: a journal must be on a disk of this machine")]
-    Network(String),
 }
 
-impl From<io::Error> for JournalError {
-    fn from(error: io::Error) -> JournalError {
-        JournalError::Io(error.to_string())
+impl From<io::Error> for OlderError {
+    fn from(error: io::Error) -> OlderError {
+        OlderError::Io(error.to_string())
     }
 }
 
-/// A segment begins with these bytes, which name the version.
-pub const MAGIC: &[u8] = b"hobbychair journal 8\n";
+/// A segment begins with so many bytes, which name the version.
+const MAGIC_LENGTH: usize = b"hobbychair journal 8\n".len();
 
-/// The version that a gateway writes. The others have the same frames. Up to version 7 what is said of queues stands in
+/// The last version. The others have the same frames. Up to version 7 what is said of queues stands in
 /// records beside the asks; since then a book says it. Up to version 6 a delayed message of a standard
 /// queue is a record of its own. Up to version 5 there are receives that count as no
 /// handings, and a purge has no record before its end. Up to version 4 a record says of which message a send is a copy, and
@@ -106,26 +94,12 @@ fn is_zero(number: &u64) -> bool {
 }
 
 impl SegmentHead {
-    pub fn new(shards: Shards, segment: u64, from: u64, previous: u64) -> SegmentHead {
-        let (shards, hash) = (shards.count(), HASH.into());
-        SegmentHead { version: VERSION, rules: RULES, shards, hash, segment, from, previous, rests_on: 0 }
-    }
-
     fn is_readable(&self) -> bool {
         self.rules == RULES && self.hash == HASH && Shards::new(self.shards).is_some()
     }
 
     fn said(&self) -> String {
         format!("rules {} and {} shards by {}", self.rules, self.shards, self.hash)
-    }
-
-    /// The first bytes of a segment.
-    pub fn encode(&self) -> io::Result<Vec<u8>> {
-        let payload = serde_json::to_vec(self)?;
-        let place = MAGIC.len() as u64;
-        let frame = frame::encode(self.previous, place, &payload);
-        let frame = frame.map_err(|error| io::Error::new(io::ErrorKind::InvalidInput, error))?;
-        Ok([MAGIC, &frame].concat())
     }
 }
 
@@ -144,19 +118,19 @@ pub struct Span {
 }
 
 /// Reads the head of a segment and finds its last good commit. Takes time in proportion to its bytes.
-pub fn scan(segment: u64, bytes: &[u8]) -> Result<Span, JournalError> {
+pub fn scan(segment: u64, bytes: &[u8]) -> Result<Span, OlderError> {
     let span = scan_front(segment, bytes)?;
     match frame::find_higher(bytes, span.end, span.last) {
-        Some(_) => Err(JournalError::Damaged { segment, place: span.end }),
+        Some(_) => Err(OlderError::Damaged { segment, place: span.end }),
         None => Ok(span),
     }
 }
 
 /// The same up to the first commit that isn't good, whatever is behind it.
-pub fn scan_front(segment: u64, bytes: &[u8]) -> Result<Span, JournalError> {
-    let version = version_of(segment, bytes.get(..MAGIC.len()).unwrap_or(bytes))?;
-    let place = MAGIC.len() as u64;
-    let damaged = JournalError::Damaged { segment, place };
+pub fn scan_front(segment: u64, bytes: &[u8]) -> Result<Span, OlderError> {
+    let version = version_of(segment, bytes.get(..MAGIC_LENGTH).unwrap_or(bytes))?;
+    let place = MAGIC_LENGTH as u64;
+    let damaged = OlderError::Damaged { segment, place };
     let first = frame::read(bytes, place).ok_or(damaged.clone())?;
     let head: SegmentHead = serde_json::from_slice(first.payload).map_err(|_| damaged.clone())?;
     if head.version != version {
@@ -164,10 +138,10 @@ pub fn scan_front(segment: u64, bytes: &[u8]) -> Result<Span, JournalError> {
     }
     if !head.is_readable() {
         let needed = format!("rules {RULES} and shards by {HASH}");
-        return Err(JournalError::OtherRules { segment, found: head.said(), needed });
+        return Err(OlderError::OtherRules { segment, found: head.said(), needed });
     }
     if head.segment != segment {
-        return Err(JournalError::OtherNumber { segment, found: head.segment });
+        return Err(OlderError::OtherNumber { segment, found: head.segment });
     }
     let (start, previous) = (first.end(), head.previous);
     let mut span = Span { segment, head, start, end: start, last: previous, last_place: place };
@@ -179,21 +153,14 @@ pub fn scan_front(segment: u64, bytes: &[u8]) -> Result<Span, JournalError> {
     Ok(span)
 }
 
-fn version_of(segment: u64, magic: &[u8]) -> Result<u32, JournalError> {
+fn version_of(segment: u64, magic: &[u8]) -> Result<u32, OlderError> {
     let name = format!("segment {segment}");
     let text = std::str::from_utf8(magic).unwrap_or_default();
     let version = text.strip_prefix("hobbychair journal ").and_then(|rest| rest.trim_end().parse().ok());
     match version {
-        Some(version) if version > VERSION => Err(JournalError::NewerVersion(name, version)),
+        Some(version) if version > VERSION => Err(OlderError::NewerVersion(name, version)),
         Some(version) if version >= OLDEST && text.ends_with('\n') => Ok(version),
-        _ => Err(JournalError::NoJournal(name)),
-    }
-}
-
-impl Span {
-    /// Whether records of any kind may be written to it.
-    pub fn is_of_this_version(&self) -> bool {
-        self.head.version == VERSION
+        _ => Err(OlderError::NoJournal(name)),
     }
 }
 
@@ -207,63 +174,59 @@ pub fn frames<'a>(span: &Span, bytes: &'a [u8]) -> impl Iterator<Item = Frame<'a
     })
 }
 
-/// All segments that count, in order, and those that another one stands for.
+/// All segments that count, in order.
 pub struct Scanned {
     pub spans: Vec<Span>,
-    pub replaced: Vec<u64>,
     /// Names of the store that were removed, in whichever segment.
     pub removed: HashSet<StoreName>,
 }
 
 /// Reads all segments, and refuses damage: a commit that is gone though a later one is there.
-pub fn scan_all<F: Folder>(folder: &F) -> Result<Scanned, JournalError> {
-    let mut numbers = folder.list()?;
-    numbers.sort_unstable();
+pub fn scan_all(segments: &Segments) -> Result<Scanned, OlderError> {
+    let numbers = segments.list()?;
     let mut spans: Vec<Span> = Vec::new();
     let mut removed = HashSet::new();
     for number in &numbers {
-        let bytes = folder.read(*number)?;
+        let bytes = segments.read(*number)?;
         let span = scan(*number, &bytes)?;
         collect_removed(&span, &bytes, &mut removed)?;
         spans.push(span);
     }
-    let (mut kept, mut replaced) = (Vec::new(), Vec::new());
+    let mut kept = Vec::new();
     let mut needed = None;
     for span in spans.into_iter().rev() {
         let next: Option<u64> = needed;
         match next {
-            Some(needed) if span.segment > needed => {
-                replaced.push(span.segment);
-                continue;
-            }
-            Some(needed) if span.segment < needed => return Err(JournalError::Missing(needed)),
+            // Another one stands for it.
+            Some(needed) if span.segment > needed => continue,
+            Some(needed) if span.segment < needed => return Err(OlderError::Missing(needed)),
             _ => {}
         }
         needed = Some(span.head.from.saturating_sub(1));
         kept.push(span);
     }
     if let Some(missing) = needed.filter(|needed| *needed > 0) {
-        return Err(JournalError::Missing(missing));
+        return Err(OlderError::Missing(missing));
     }
     kept.reverse();
     for pair in kept.windows(2) {
         if pair[0].last != pair[1].head.previous {
-            return Err(JournalError::Damaged { segment: pair[0].segment, place: pair[0].end });
+            return Err(OlderError::Damaged { segment: pair[0].segment, place: pair[0].end });
         }
     }
     let last = kept.last().map_or(0, |span| span.last);
     match kept.iter().find(|span| span.head.rests_on > last) {
-        Some(span) => Err(JournalError::Lacking { segment: span.segment, needed: span.head.rests_on, last }),
-        None => Ok(Scanned { spans: kept, replaced, removed }),
+        Some(span) => Err(OlderError::Lacking { segment: span.segment, needed: span.head.rests_on, last }),
+        None => Ok(Scanned { spans: kept, removed }),
     }
 }
 
 /// The record of a removal has these bytes, and others may have them too: clients choose the keys and values of tags.
 const PERHAPS_REMOVAL: &[u8] = b"\"remove\"";
 
-fn collect_removed(span: &Span, bytes: &[u8], removed: &mut HashSet<StoreName>) -> Result<(), JournalError> {
+fn collect_removed(span: &Span, bytes: &[u8], removed: &mut HashSet<StoreName>) -> Result<(), OlderError> {
     for frame in frames(span, bytes) {
-        let damaged = JournalError::Damaged { segment: span.segment, place: frame.place };
+        let damaged = OlderError::Damaged { segment: span.segment, place: frame.place };
         removed.extend(removed_by(frame.payload).ok_or(damaged)?);
     }
     Ok(())
@@ -280,106 +243,6 @@ pub fn removed_by(payload: &[u8]) -> Option<Vec<StoreName>> {
         rest = &rest[end..];
     }
     Some(removed)
-}
-
-/// Segments that were written anew, as one, and don't have its name yet.
-pub struct Rewritten {
-    span: Span,
-    replaced: Vec<u64>,
-    /// How many records went.
-    pub dropped: u64,
-    /// How many of the old segments are in it.
-    pub consumed: usize,
-}
-
-/// Why segments aren't written anew, and how long what stays of them is; 0 where that isn't known.
-#[derive(Debug)]
-pub struct NotRewritten {
-    pub why: JournalError,
-    pub length: u64,
-}
-
-impl<E: Into<JournalError>> From<E> for NotRewritten {
-    fn from(why: E) -> NotRewritten {
-        NotRewritten { why: why.into(), length: 0 }
-    }
-}
-
-/// Writes the first segments of these spans anew, as one, without the records of removed names: as many as make one of
-/// `length` bytes. Nothing may be written to them any more, each removal must be on disk by commit `rests_on`, and
-/// segments before them must have been written anew. None if there are no spans.
-pub fn rewrite<F: Folder>(
-    folder: &F,
-    spans: &[Span],
-    removed: &HashSet<StoreName>,
-    rests_on: u64,
-    length: u64,
-) -> Result<Option<Rewritten>, NotRewritten> {
-    let Some(first) = spans.first() else { return Ok(None) };
-    let (mut kept, mut size, mut dropped, mut consumed) = (Vec::new(), 0, 0, 0);
-    for span in spans {
-        let old = folder.read(span.segment)?;
-        for frame in frames(span, &old) {
-            let payload = without(frame.payload, removed);
-            dropped += lines_in(frame.payload) - lines_in(&payload);
-            // The last commit says how far the segment goes.
-            if !payload.is_empty() || frame.number == span.last {
-                size += payload.len() as u64;
-                kept.push((frame.number, payload));
-            }
-        }
-        consumed += 1;
-        if size >= length {
-            break;
-        }
-    }
-    let last = &spans[consumed - 1];
-    let rests_on = spans[..consumed].iter().map(|span| span.head.rests_on).fold(rests_on, u64::max);
-    let mut bytes = SegmentHead { version: VERSION, segment: last.segment, rests_on, ..first.head.clone() }.encode()?;
-    for (number, payload) in kept {
-        let again = frame::encode(number, bytes.len() as u64, &payload);
-        bytes.extend(again.map_err(|error| JournalError::Io(error.to_string()))?);
-    }
-    let span = scan(last.segment, &bytes)?;
-    let file = folder.create(last.segment)?;
-    if let Err(error) = file.write_at(0, &bytes).and_then(|()| file.sync()) {
-        // What a full disk took of it is wanted for commits.
-        let _ = file.set_length(0);
-        return Err(NotRewritten { why: error.into(), length: bytes.len() as u64 });
-    }
-    let replaced = spans[..consumed - 1].iter().map(|span| span.segment).collect();
-    Ok(Some(Rewritten { span, replaced, dropped, consumed }))
-}
-
-/// How many records a payload has.
-pub fn lines_in(payload: &[u8]) -> u64 {
-    memchr::memchr_iter(b'\n', payload).count() as u64
-}
-
-impl Rewritten {
-    /// Puts the new segment in the place of the old ones. It has the number of the last of them.
-    pub fn publish<F: Folder>(self, folder: &F) -> Result<Span, JournalError> {
-        folder.publish(self.span.segment)?;
-        folder.sync()?;
-        for segment in self.replaced {
-            folder.remove(segment)?;
-        }
-        folder.sync()?;
-        Ok(self.span)
-    }
-}
-
-/// The lines of a payload but those of removed names.
-fn without(payload: &[u8], removed: &HashSet<StoreName>) -> Vec<u8> {
-    let mut kept = Vec::with_capacity(payload.len());
-    for line in payload.split_inclusive(|byte| *byte == b'\n') {
-        let record = Record::read(line.strip_suffix(b"\n").unwrap_or(line));
-        let name = record.and_then(|record| record.store_name());
-        if !name.is_some_and(|name| name.is_among(removed)) {
-            kept.extend_from_slice(line);
-        }
-    }
-    kept
 }
 
 #[cfg(test)]

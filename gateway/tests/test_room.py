@@ -1,4 +1,4 @@
-"""A gateway whose journal `cq` keeps: what differs from one that keeps its own. Most other tests run in both ways."""
+"""What a gateway does where a journal has no room, and what it takes up of a store at a start."""
 
 from __future__ import annotations
 
@@ -13,11 +13,9 @@ from pathlib import Path
 
 import pytest
 
-from started import START, ByJson, Refused, Started, names_in_store, program, programs_of, run, size_of_journals
+from started import START, ByJson, Refused, Started, files_of, names_in_store, program, programs_of, run
 
 DAY = 24 * 3_600_000
-
-pytestmark = pytest.mark.skipif(os.environ.get("HOBBYCHAIR_TEST_JOURNAL") != "proved", reason="HOBBYCHAIR_TEST_JOURNAL isn't proved")
 
 # Refuses requests and the lines behind them that a test names, as where there is no room. Each other line is passed on, and
 # those that have something answered one by one.
@@ -75,8 +73,8 @@ class Full:
         self.orders, cq, self.journal = room / "orders", room / "full-cq", room / "journal"
         cq.write_text(FULL.format(python=sys.executable, program=program(), orders=str(self.orders)))
         cq.chmod(0o755)
-        words = (*words, "--no-pauses", "--cq", str(cq), *size_of_journals(2 if "2" in words else 1))
-        self.gateway = Started("--proved-journal", str(self.journal), *words, room=room)
+        words = (*words, "--no-pauses", "--cq", str(cq))
+        self.gateway = Started("--journal", str(self.journal), *words, room=room)
 
     def call(self, action: str, **members):
         return ByJson(self.gateway.url)(action, **members)
@@ -234,7 +232,7 @@ def test_an_answer_that_has_no_room_ends_the_gateway_and_the_next_one_knows_what
 
 
 def test_a_message_tells_the_tables_when_it_was_sent_also_in_a_queue_that_delays_all(tmp_path):
-    gateway = Started("--proved-journal", str(tmp_path / "journal"), *size_of_journals(1), room=tmp_path)
+    gateway = Started("--journal", str(tmp_path / "journal"), room=tmp_path)
     call = ByJson(gateway.url)
     call("CreateQueue", QueueName="q.fifo", Attributes={"FifoQueue": "true", "DelaySeconds": "60"})
     for place in range(3):
@@ -255,7 +253,7 @@ def test_a_message_tells_the_tables_when_it_was_sent_also_in_a_queue_that_delays
 def test_names_of_parts_are_used_again_after_a_minute(tmp_path):
     """`cq` remembers each name for good."""
     journal = tmp_path / "journal"
-    gateway = Started("--proved-journal", str(journal), *size_of_journals(1), room=tmp_path)
+    gateway = Started("--journal", str(journal), room=tmp_path)
     ByJson(gateway.url)("CreateQueue", QueueName="q")
 
     def names() -> set[str]:
@@ -282,7 +280,7 @@ def test_names_of_parts_are_used_again_after_a_minute(tmp_path):
 
 
 def test_an_attempt_is_given_the_same_after_a_start(tmp_path):
-    gateway = Started("--proved-journal", str(tmp_path / "journal"), *size_of_journals(1), room=tmp_path)
+    gateway = Started("--journal", str(tmp_path / "journal"), room=tmp_path)
     call = ByJson(gateway.url)
     call("CreateQueue", QueueName="q.fifo", Attributes={"FifoQueue": "true", "VisibilityTimeout": "100"})
     for place in range(4):
@@ -312,7 +310,7 @@ def test_an_attempt_is_given_the_same_after_a_start(tmp_path):
 
 
 def test_a_day_of_a_pause_counts_at_this_start_and_at_later_ones(tmp_path):
-    gateway = Started("--proved-journal", str(tmp_path / "journal"), *size_of_journals(1), room=tmp_path)
+    gateway = Started("--journal", str(tmp_path / "journal"), room=tmp_path)
     call = ByJson(gateway.url)
     call("CreateQueue", QueueName="q", Attributes={"MessageRetentionPeriod": str(2 * DAY // 1000)})
     call("SendMessage", QueueUrl="q", MessageBody="m")
@@ -337,30 +335,28 @@ def test_a_day_of_a_pause_counts_at_this_start_and_at_later_ones(tmp_path):
 
 def test_each_program_has_a_file_and_no_other_number_of_them_is_taken(tmp_path):
     journal = tmp_path / "journal"
-    words = ("--proved-journal", str(journal), *size_of_journals(4))
+    words = ("--journal", str(journal))
     gateway = Started(*words, "--shards", "3")
     names = [f"q{number}" for number in range(9)]
     for name in names:
         ByJson(gateway.url)("CreateQueue", QueueName=name)
         ByJson(gateway.url)("SendMessage", QueueUrl=name, MessageBody=name)
-    assert sorted(file.name for file in tmp_path.glob("journal*")) == ["journal.1", "journal.2", "journal.3"]
-    again = run("--port", "0", *words, "--shards", "3")
-    assert again.returncode == 1 and "JournalBusy" in again.stderr
+    assert [file.name for file in files_of(journal)] == ["journal.cq1", "journal.cq2", "journal.cq3"]
+    # Another gateway that looks for no lock.
+    other = tmp_path / "other"
+    other.mkdir()
+    for file in tmp_path.glob("journal.*[0-9]"):
+        (other / file.name).symlink_to(file)
+    again = run("--port", "0", "--journal", str(other / "journal"), "--shards", "3")
+    assert again.returncode == 1 and ("JournalBusy" in again.stderr or "NotAJournal" in again.stderr), again.stderr
     for child in programs_of(gateway):
         os.kill(child, signal.SIGKILL)
     for name in names:
         assert ByJson(gateway.url)("ReceiveMessage", QueueUrl=name)["Messages"][0]["Body"] == name
     assert gateway.stop() == 0
     for shards in ("2", "4"):
-        other = run("--port", "0", *words, "--shards", shards)
-        assert other.returncode == 1 and "--shards" in other.stderr, other.stderr
-    (tmp_path / "journal.4").unlink(missing_ok=True)
+        refused = run("--port", "0", *words, "--shards", shards)
+        assert refused.returncode == 1 and "--shards" in refused.stderr, refused.stderr
     gateway = Started(*words, "--shards", "3")
     assert len(ByJson(gateway.url)("ListQueues")["QueueUrls"]) == 9
     assert gateway.stop() == 0
-
-
-def test_what_is_no_journal_is_named(tmp_path):
-    (tmp_path / "journal").write_text("hello")
-    told = run("--port", "0", "--proved-journal", str(tmp_path / "journal"))
-    assert told.returncode == 1 and "NotAJournal" in told.stderr

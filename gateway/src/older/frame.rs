@@ -1,15 +1,13 @@
 //! Frames: one for each commit. A frame says its number and its place, so that old bytes never pass for new ones.
 
-use thiserror::Error;
-
 /// Each frame begins with these bytes. Two of them are in no text in UTF-8, so no record has them.
 pub const MARK: [u8; 4] = *b"\xffHC\xfe";
 
 /// The bytes of a frame before its payload: mark, number, place and length, and a checksum over all but the mark.
-pub const HEAD: usize = 4 + 8 + 8 + 4 + 4;
+const HEAD: usize = 4 + 8 + 8 + 4 + 4;
 
-/// The longest payload. A commit takes what waits, and that is bounded far below.
-pub const LONGEST: usize = 1 << 30;
+/// The longest payload.
+const LONGEST: usize = 1 << 30;
 
 /// A good frame in the bytes of a file.
 #[derive(Clone, Copy, Debug, PartialEq, Eq)]
@@ -25,25 +23,6 @@ impl Frame<'_> {
     pub fn end(&self) -> u64 {
         self.place + (HEAD + self.payload.len()) as u64
     }
-}
-
-/// A payload is too long for a frame.
-#[derive(Clone, Copy, Debug, PartialEq, Eq, Error)]
-#[error("a commit of {0} bytes is too long")]
-pub struct TooLong(pub usize);
-
-/// The bytes of a frame that goes to this place.
-pub fn encode(number: u64, place: u64, payload: &[u8]) -> Result<Vec<u8>, TooLong> {
-    let length = u32::try_from(payload.len()).ok().filter(|length| *length as usize <= LONGEST);
-    let length = length.ok_or(TooLong(payload.len()))?;
-    let mut bytes = Vec::with_capacity(HEAD + payload.len());
-    bytes.extend_from_slice(&MARK);
-    bytes.extend_from_slice(&number.to_be_bytes());
-    bytes.extend_from_slice(&place.to_be_bytes());
-    bytes.extend_from_slice(&length.to_be_bytes());
-    bytes.extend_from_slice(&checksum(&bytes[4..24], payload).to_be_bytes());
-    bytes.extend_from_slice(payload);
-    Ok(bytes)
 }
 
 fn checksum(head: &[u8], payload: &[u8]) -> u32 {
@@ -80,10 +59,21 @@ pub fn find_higher(bytes: &[u8], place: u64, number: u64) -> Option<u64> {
 mod tests {
     use super::*;
 
+    /// The bytes of a frame that stands at this place.
+    fn encode(number: u64, place: u64, payload: &[u8]) -> Vec<u8> {
+        let mut bytes = MARK.to_vec();
+        bytes.extend_from_slice(&number.to_be_bytes());
+        bytes.extend_from_slice(&place.to_be_bytes());
+        bytes.extend_from_slice(&(payload.len() as u32).to_be_bytes());
+        bytes.extend_from_slice(&checksum(&bytes[4..24], payload).to_be_bytes());
+        bytes.extend_from_slice(payload);
+        bytes
+    }
+
     #[test]
     fn a_frame_is_read_at_its_own_place_alone() {
         let mut file = vec![0; 10];
-        file.extend(encode(7, 10, b"hello").unwrap());
+        file.extend(encode(7, 10, b"hello"));
         let frame = read(&file, 10).unwrap();
         assert_eq!((frame.number, frame.payload, frame.end()), (7, &b"hello"[..], file.len() as u64));
         assert_eq!(read(&file[1..], 9), None);
@@ -93,7 +83,7 @@ mod tests {
 
     #[test]
     fn no_flipped_bit_and_no_cut_is_a_good_frame() {
-        let whole = encode(7, 0, b"hello").unwrap();
+        let whole = encode(7, 0, b"hello");
         for bit in 0..8 * whole.len() {
             let mut spoilt = whole.clone();
             spoilt[bit / 8] ^= 1 << (bit % 8);

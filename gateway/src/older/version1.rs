@@ -6,7 +6,6 @@
 use std::borrow::Cow;
 use std::collections::{BTreeMap, HashMap};
 use std::io::{self, Write};
-use std::path::Path;
 
 use serde::{Deserialize, Serialize};
 use serde_json::value::RawValue;
@@ -14,16 +13,14 @@ use sha2::{Digest, Sha256};
 use tokio::io::{AsyncBufReadExt, AsyncWriteExt, BufReader};
 use uuid::Uuid;
 
-use super::disk::{open_file, read_file, Files, Folder, Segment};
-use super::frame::{self, MARK};
+use super::frame::MARK;
 use super::record::{Creation, Record};
-use super::segments::{JournalError, SegmentHead};
+use super::segments::OlderError;
 use crate::attributes::{GivenAttributes, QueueAttributes};
 use crate::cq::{Cq, CqError};
 use crate::lines::{self, read_receipt, AskFields, AskKind, OutputLine, StoreReply};
 use crate::messages::{read_envelope, AttributeValue, Envelope, MessageAttributes, Metadata};
 use crate::queues::ask::{Ask, Cause, Changer, Reach, StoreName, TableChange};
-use crate::queues::shards::Shards;
 use crate::store::ReplayError;
 use crate::texts::{hex, AttemptId, Body, DedupId, GroupId, QueueName};
 
@@ -37,8 +34,6 @@ const PIECE: usize = 256;
 #[derive(Deserialize)]
 struct Old<'a> {
     clock: Option<u64>,
-    client: Option<u32>,
-    number: Option<u64>,
     #[serde(borrow)]
     ask: Option<&'a RawValue>,
     #[serde(borrow)]
@@ -80,35 +75,13 @@ enum OldChange {
     Purged { queue: QueueName, clock: u64 },
 }
 
-pub fn is_there(path: &Path) -> bool {
-    open_file(path, std::fs::File::options().read(true)).and_then(|file| starts_as_one(&file)).unwrap_or(false)
-}
-
-fn starts_as_one(mut file: &std::fs::File) -> io::Result<bool> {
-    use std::io::Read;
-    let mut header = [0; HEADER.len()];
-    file.read_exact(&mut header)?;
-    Ok(header == HEADER)
-}
-
-/// Makes way for a journal of this version. A file of version 1 must have been written anew before, or be empty.
-pub fn take_over(files: &Files, path: &Path) -> Result<(), JournalError> {
-    let bytes = match read_file(path) {
-        Ok(bytes) => bytes,
-        Err(error) if error.kind() == io::ErrorKind::NotFound => return Ok(()),
-        Err(error) => return Err(error.into()),
-    };
-    let was_converted = bytes.starts_with(HEADER) && !files.list()?.is_empty();
-    let was_cut_at_birth = HEADER.starts_with(&bytes);
-    if !was_converted && !was_cut_at_birth {
-        return Err(JournalError::NoJournal(path.display().to_string()));
-    }
-    std::fs::rename(path, files.path_of("version1"))?;
-    Ok(files.sync()?)
+/// Whether a file with these first bytes is a journal of version 1, or was cut off before it was one.
+pub fn may_be_one(front: &[u8]) -> bool {
+    front.starts_with(HEADER) || HEADER.starts_with(front)
 }
 
 /// The texts of the records. One at the end that is cut is left out; any other damage is an error.
-fn texts(bytes: &[u8]) -> Result<Vec<&[u8]>, JournalError> {
+fn texts(bytes: &[u8]) -> Result<Vec<&[u8]>, OlderError> {
     let mut texts = Vec::new();
     let mut place = HEADER.len();
     while let Some(text) = text_at(bytes, place) {
@@ -118,7 +91,7 @@ fn texts(bytes: &[u8]) -> Result<Vec<&[u8]>, JournalError> {
     let rest = bytes.get(place + 1..).unwrap_or_default();
     let mut marks = memchr::memmem::find_iter(rest, &MARK);
     if marks.any(|at| text_at(bytes, place + 1 + at).is_some()) {
-        return Err(JournalError::Damaged { segment: 0, place: place as u64 });
+        return Err(OlderError::Damaged { segment: 0, place: place as u64 });
     }
     Ok(texts)
 }
@@ -134,38 +107,16 @@ fn text_at(bytes: &[u8], place: usize) -> Option<&[u8]> {
     (head[..4] == MARK && sum.finalize() == word(8)?).then_some(text)
 }
 
-/// Writes the lines of a script of what a journal of version 1 has.
-pub fn dump(path: &Path, out: &mut impl Write) -> Result<(), JournalError> {
-    let bytes = std::fs::read(path)?;
-    for text in texts(&bytes)? {
-        let old: Old<'_> = serde_json::from_slice(text).map_err(|error| JournalError::Io(error.to_string()))?;
-        if let (Some(clock), Some(client), Some(number), Some(ask)) = (old.clock, old.client, old.number, old.ask) {
-            let mut lines = Vec::new();
-            let appended = lines::append_request(&mut lines, clock, client, number, ask);
-            appended.map_err(|error| JournalError::Io(error.to_string()))?;
-            out.write_all(&lines)?;
-        }
+/// The lines of the records of version 8 that these bytes stand for. One program wrote them, so any number of programs can
+/// share them.
+pub async fn convert(program: &str, bytes: &[u8]) -> Result<Vec<u8>, ReplayError> {
+    if !bytes.starts_with(HEADER) {
+        // It was cut off before it had anything.
+        return Ok(Vec::new());
     }
-    Ok(())
-}
-
-/// How many records a journal of version 1 has.
-pub fn count(path: &Path) -> Result<usize, JournalError> {
-    Ok(texts(&std::fs::read(path)?)?.len())
-}
-
-/// Writes a journal of version 1 anew, where there is one that wasn't yet. The old file stays as it is. One
-/// program wrote it, so any number of them can share it from then on.
-pub async fn convert(program: &str, path: &Path, shards: Shards) -> Result<(), ReplayError> {
-    let files = Files::new(path);
-    if !is_there(path) || !files.list().map_err(JournalError::from)?.is_empty() {
-        return Ok(());
-    }
-    let bytes = std::fs::read(path).map_err(JournalError::from)?;
     let mut cq = Cq::start(program)?;
-    let segment = SegmentHead::new(shards, 1, 1, 0).encode().map_err(JournalError::from)?;
-    let mut conversion = Conversion { segment, ..Conversion::default() };
-    for text in texts(&bytes)? {
+    let mut conversion = Conversion::default();
+    for text in texts(bytes)? {
         conversion.records += 1;
         conversion.take(text).ok_or(ReplayError::BadRecord(conversion.records))?;
         if conversion.converted.len() == PIECE {
@@ -174,19 +125,7 @@ pub async fn convert(program: &str, path: &Path, shards: Shards) -> Result<(), R
     }
     conversion.put(&mut cq).await?;
     cq.stop().await;
-    write_segment(&files, &conversion.segment)?;
-    Ok(())
-}
-
-fn write_segment(files: &Files, bytes: &[u8]) -> Result<(), JournalError> {
-    let file = files.create(1)?;
-    if let Err(error) = file.write_at(0, bytes).and_then(|()| file.sync()) {
-        // What a full disk took of it is wanted by others. The next start begins it anew.
-        let _ = files.clear();
-        return Err(JournalError::NotConverted { bytes: bytes.len(), why: error.to_string() });
-    }
-    files.publish(1)?;
-    Ok(files.sync()?)
+    Ok(conversion.out)
 }
 
 /// A queue of the old journal: its name in the store by now, and what the old store counted.
@@ -228,11 +167,7 @@ struct Conversion {
     converted: Vec<Converted>,
     /// The whole envelopes of messages of which the store has a stub.
     split: HashMap<String, String>,
-    /// The lines of the commit to come.
     out: Vec<u8>,
-    /// The bytes of the new segment.
-    segment: Vec<u8>,
-    commits: u64,
 }
 
 impl Conversion {
@@ -356,7 +291,7 @@ impl Conversion {
             if let ConvertedKind::Ask { raw, number, .. } = &one.kind {
                 count += 1;
                 let appended = lines::append_request(&mut lines, one.clock, 1, *number, raw);
-                appended.map_err(|error| JournalError::Io(error.to_string()))?;
+                appended.map_err(|error| OlderError::Io(error.to_string()))?;
             }
         }
         let Cq { input, output, .. } = cq;
@@ -384,19 +319,11 @@ impl Conversion {
                 }
             }
         }
-        Ok(self.commit()?)
-    }
-
-    fn commit(&mut self) -> Result<(), JournalError> {
-        self.commits += 1;
-        let frame = frame::encode(self.commits, self.segment.len() as u64, &self.out);
-        self.segment.extend(frame.map_err(|error| JournalError::Io(error.to_string()))?);
-        self.out.clear();
         Ok(())
     }
 
-    fn append_record(&mut self, record: &Record<'_>) -> Result<(), JournalError> {
-        record.append(&mut self.out).map_err(|error| JournalError::Io(error.to_string()))
+    fn append_record(&mut self, record: &Record<'_>) -> Result<(), OlderError> {
+        record.append(&mut self.out).map_err(|error| OlderError::Io(error.to_string()))
     }
 }
 
@@ -523,6 +450,6 @@ mod tests {
         let mut spoilt = whole.clone();
         spoilt[HEADER.len() + RECORD_HEAD] ^= 1;
         let place = HEADER.len() as u64;
-        assert_eq!(texts(&spoilt), Err(JournalError::Damaged { segment: 0, place }));
+        assert_eq!(texts(&spoilt), Err(OlderError::Damaged { segment: 0, place }));
     }
 }

@@ -1,0 +1,167 @@
+//! The files of a journal are made, and what an earlier version kept goes into them: its records are put to programs that
+//! keep their lines, and what it had beside the store goes to the store. All of that is done before the files have their
+//! names, so a start that is cut off leaves the earlier journal as it was.
+
+use std::sync::atomic::AtomicU64;
+use std::sync::Arc;
+use std::time::Duration;
+
+use anyhow::{bail, Context, Result};
+
+use crate::book;
+use crate::clock::{Clock, Moment};
+use crate::cq::{Cq, KeptFile};
+use crate::delays;
+use crate::journal::{Files, Lock};
+use crate::messages::{parts_of, EnvelopeHead};
+use crate::moves;
+use crate::older::{OlderJournal, Records};
+use crate::purges;
+use crate::queues::ask::{PartsAsk, PartsCause};
+use crate::queues::{Queue, Queues};
+use crate::retention;
+use crate::store::{self, replay_all, Ends, Kept, ReplayError, Replayed, Start, Store, Tables};
+
+/// With what programs are started, and who is told how far it is.
+pub struct Upgrade<'a> {
+    pub program: &'a str,
+    pub patience: Duration,
+    pub files: &'a Files,
+    pub clock: &'a Arc<Clock>,
+    pub progress: &'a Arc<AtomicU64>,
+}
+
+/// A file is made at least so many times as large as the earlier journal's: its store stands there twice for a moment, beside
+/// the lines that led to it.
+const TIMES_AS_LARGE: u64 = 3;
+
+impl Upgrade<'_> {
+    /// Has the files of the journal be there. Nobody else has them for as long as what this gives is kept.
+    pub async fn prepare(&self) -> Result<Lock> {
+        let lock = self.files.lock()?;
+        if self.files.is_there()? {
+            self.put_away(OlderJournal::find(self.files.path())?)?;
+            return Ok(lock);
+        }
+        let older = OlderJournal::find(self.files.path())?;
+        let made = match &older {
+            Some(older) => self.take_over(older).await,
+            None => self.make(0).await.map(drop),
+        };
+        if made.is_err() {
+            // What a full disk took of them is wanted by others.
+            let _ = self.files.clear_fresh();
+        }
+        made?;
+        self.files.publish()?;
+        self.put_away(older)?;
+        Ok(lock)
+    }
+
+    fn put_away(&self, older: Option<OlderJournal>) -> Result<()> {
+        for name in older.map(OlderJournal::put_away).transpose()?.into_iter().flatten() {
+            tracing::warn!(
+                "{} is of an earlier version, and nobody reads it any more: it may be deleted",
+                name.display()
+            );
+        }
+        Ok(self.files.bar_older()?)
+    }
+
+    /// The files before they have their names, of at least so many MiB together.
+    fn fresh_files(&self, least: u64) -> Vec<KeptFile> {
+        let shards = self.files.shards();
+        let of_each = least.div_ceil(u64::from(shards.count()));
+        shards.all().map(|shard| self.files.fresh(shard.place(), of_each)).collect()
+    }
+
+    /// Starts a program on each of them.
+    async fn make(&self, least: u64) -> Result<Vec<Cq>> {
+        let mut cqs = Vec::new();
+        for file in self.fresh_files(least) {
+            let ready = store::start_told(self.program, &file, self.patience, &mut |_| Ok(())).await;
+            cqs.push(ready.with_context(|| file.path.display().to_string())?.cq);
+        }
+        Ok(cqs)
+    }
+
+    /// Feeds what an earlier version kept to programs. Where one of them ends on the way, all begin anew, once.
+    async fn take_over(&self, older: &OlderJournal) -> Result<()> {
+        let records = older.records(self.program, self.files.shards()).await?;
+        let least = (TIMES_AS_LARGE * older.bytes()) >> 20;
+        tracing::info!("the journal of an earlier version is read, and goes into files of this one");
+        match self.feed(&records, least).await {
+            Err(error) if error.downcast_ref::<ReplayError>().is_some_and(ReplayError::is_of_program) => {
+                tracing::warn!("cq is started again. Before, {error}");
+                self.files.clear_fresh()?;
+                self.feed(&records, least).await
+            }
+            fed => fed,
+        }
+    }
+
+    async fn feed(&self, records: &Records, least: u64) -> Result<()> {
+        let queues = Arc::new(Queues::default());
+        let tables = Tables { queues: queues.clone(), clock: self.clock.clone(), progress: self.progress.clone() };
+        let cqs = self.make(least).await?;
+        let replayed = replay_all(cqs, self.files.shards(), records, &tables).await?;
+        // Each of them has seen all records.
+        let (records, latest) = replayed.first().map_or((0, 0), |one| (one.records, one.latest));
+        tracing::info!("{records} records of an earlier version were read");
+        let (store, mut ends) = self.start(queues, replayed);
+        tokio::select! {
+            finished = finish(&store, latest) => finished?,
+            ended = ends.recv() => bail!(ended.map_or_else(|| "The store is gone.".to_string(), |ended| ended.to_string())),
+        }
+        drop(store);
+        // The files are nobody's once all programs have ended.
+        while ends.recv().await.is_some() {}
+        Ok(())
+    }
+
+    fn start(&self, queues: Arc<Queues>, replayed: Vec<Replayed>) -> (Store, Ends) {
+        let begun = replayed.iter().map(|one| (one.line, one.number)).collect();
+        store::start(Start {
+            program: self.program.into(),
+            patience: self.patience,
+            shards: self.files.shards(),
+            cqs: replayed.into_iter().map(|one| one.cq).collect(),
+            queues,
+            clock: self.clock.clone(),
+            kept: Some(Kept { files: self.fresh_files(0), begun }),
+            memory: None,
+        })
+    }
+}
+
+/// Brings to its end what was cut off, and has the store have what the earlier journal has beside it, whose last record is of
+/// this moment.
+async fn finish(store: &Store, latest: Moment) -> Result<()> {
+    book::begin_all(store).await?;
+    retention::tell_jump(store, latest).await;
+    store.queues().parts().settle_all();
+    moves::finish(store).await;
+    purges::finish(store).await;
+    delays::take_over(store).await.context("delayed messages")?;
+    for queue in store.queues().all_and_delays() {
+        put_in_parts(store, &queue).await.with_context(|| queue.name.to_string())?;
+    }
+    Ok(book::begin_all_anew(store).await?)
+}
+
+/// Puts the envelopes in parts that only the earlier journal has.
+async fn put_in_parts(store: &Store, queue: &Arc<Queue>) -> Result<()> {
+    let beside = queue.state().envelopes_beside_the_store();
+    for (sequence, whole) in beside {
+        let head = EnvelopeHead::of(&whole).context("the journal has a message in no form")?;
+        let number = store.next_parts(queue);
+        let add = |(place, text): (usize, &str)| PartsAsk::Add(PartsCause::Move, place, text.into());
+        let parts = parts_of(&whole).into_iter().enumerate().map(add);
+        let asks = [PartsAsk::Create(PartsCause::Move)].into_iter().chain(parts).collect();
+        store.ask_parts(number, asks).await.into_iter().try_for_each(|answer| answer.map(drop))?;
+        let line = head.in_place(number, whole.len())?;
+        queue.state().is_in_parts(sequence, number, line.stored().into());
+        store.queues().parts().name(number);
+    }
+    Ok(())
+}

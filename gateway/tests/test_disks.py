@@ -1,0 +1,73 @@
+"""Disks that are full: a first start needs the space of its files, and a later one needs none."""
+
+from __future__ import annotations
+
+import os
+from pathlib import Path
+
+import pytest
+
+from started import ByJson, Refused, Started, run
+
+
+def fill(disk: Path) -> Path:
+    """Takes all that is free of the disk."""
+    filler = disk / "filler"
+    with filler.open("wb", buffering=0) as file:
+        for size in (1 << 16, 1 << 12):
+            try:
+                while True:
+                    file.write(b"\0" * size)
+            except OSError:
+                pass
+    assert os.statvfs(disk).f_bavail == 0
+    return filler
+
+
+@pytest.mark.parametrize("free", [0, 1 << 20, 40 << 20])
+def test_a_first_start_on_a_full_disk_ends_and_leaves_nothing(tmp_path, small_disk, free):
+    disk = small_disk("140m")
+    (disk / "spare").write_bytes(b"\0" * free)
+    filler = fill(disk)
+    (disk / "spare").unlink()
+    words = ["--journal", str(disk / "journal"), "--journal-size", "64MiB"]
+    for _ in range(3):
+        ended = run("--port", "0", *words)
+        assert ended.returncode == 1 and "JournalFailed" in ended.stderr, ended.stderr
+        assert set(os.listdir(disk)) <= {"filler", "journal.lock"}
+    filler.unlink()
+    gateway = Started(*words)
+    ByJson(gateway.url)("CreateQueue", QueueName="q")
+    assert gateway.stop() == 0
+
+
+def test_a_disk_that_is_filled_later_takes_nothing_from_a_journal(tmp_path, small_disk):
+    """It is filled and freed ten times, while messages come and go and the gateway is killed."""
+    disk = small_disk("140m")
+    gateway = Started("--journal", str(disk / "journal"), "--journal-size", "64MiB")
+    call = lambda action, **members: ByJson(gateway.url)(action, **members)
+    call("CreateQueue", QueueName="q.fifo", Attributes={"FifoQueue": "true", "VisibilityTimeout": "600"})
+    there: list[str] = []
+    for turn in range(10):
+        filler = fill(disk)
+        for number in range(100):
+            body = f"{turn}-{number}-" + "x" * 20_000
+            try:
+                call("SendMessage", QueueUrl="q.fifo", MessageBody=body, MessageGroupId=str(number % 7), MessageDeduplicationId=body[:9])
+                there.append(body)
+            except Refused as refusal:
+                assert refusal.code == "OverLimit"
+        if turn % 3 == 0:
+            gateway.kill()
+            gateway.start()
+        found = []
+        while messages := call("ReceiveMessage", QueueUrl="q.fifo", MaxNumberOfMessages=10).get("Messages"):
+            for message in messages:
+                found.append(message["Body"])
+                call("DeleteMessage", QueueUrl="q.fifo", ReceiptHandle=message["ReceiptHandle"])
+        assert sorted(found) == sorted(there), turn
+        there = []
+        filler.unlink()
+        gateway.kill()
+        gateway.start()
+    assert gateway.stop() == 0
