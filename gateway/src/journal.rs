@@ -186,7 +186,9 @@ pub fn keep_older_out(path: &Path) -> io::Result<()> {
         return Ok(());
     }
     let (fresh, bar) = (with_suffix(path, "cq.new"), with_suffix(path, "1"));
-    let mut file = about(&fresh, OpenOptions::new().write(true).create(true).truncate(true).mode(0o600).open(&fresh))?;
+    // One that a start left which was cut off. A link in its place would lead to another file.
+    remove(&fresh)?;
+    let mut file = about(&fresh, OpenOptions::new().write(true).create_new(true).mode(0o600).open(&fresh))?;
     about(&fresh, file.write_all(BAR).and_then(|()| file.sync_all()))?;
     about(&fresh, std::fs::rename(&fresh, bar))?;
     sync_folder(path)

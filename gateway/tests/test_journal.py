@@ -224,7 +224,8 @@ def test_files_are_their_owners_alone_and_no_link_is_followed(tmp_path):
     victim = tmp_path / "victim"
     victim.write_text("kept")
     victim.chmod(0o644)
-    (tmp_path / "journal.cq1.new").symlink_to(victim)
+    for name in ("journal.cq1.new", "journal.cq.new"):
+        (tmp_path / name).symlink_to(victim)
     (tmp_path / "journal.lock").touch(0o644)
     gateway = Started("--journal", str(tmp_path / "journal"))
     try:
