@@ -70,7 +70,7 @@ fn uncounted(last_record: Moment, start: Moment) -> Option<u64> {
 }
 
 /// The clock may be more than a day ahead of the last record: of that time a day counts. A book says so, so that it is the
-/// same at later starts.
+/// same at later starts. Where there is no room for that, it says so as soon as there is.
 pub async fn tell_jump(store: &Store, last_record: Moment) {
     let now = store.clock().now();
     let Some(uncounted) = uncounted(last_record, now) else { return };
@@ -78,7 +78,8 @@ pub async fn tell_jump(store: &Store, last_record: Moment) {
     store.queues().jumps().add(now, uncounted);
     let said = store.perform_nameless(0, vec![Operation::Say(Entry::Jump(now, uncounted))]).await;
     if let Err(error) = said {
-        tracing::warn!("a later start doesn't know that the clock was far ahead: {error}");
+        tracing::warn!("it is said later that the clock was far ahead: {error}");
+        store.queues().books().program_is_unsaid(0);
     }
 }
 

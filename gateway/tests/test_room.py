@@ -333,6 +333,21 @@ def test_a_day_of_a_pause_counts_at_this_start_and_at_later_ones(tmp_path):
     assert gateway.stop() == 0
 
 
+def test_a_day_of_a_pause_counts_where_there_is_no_room_to_say_so_at_first(full):
+    full.call("CreateQueue", QueueName="q", Attributes={"MessageRetentionPeriod": str(2 * DAY // 1000)})
+    full.call("SendMessage", QueueUrl="q", MessageBody="m")
+    full.gateway.kill()
+    full.gateway.set_clock(full.gateway.moment + 9 * DAY)
+    full.tell('\\"jump\\":')
+    full.gateway.start()
+    assert full.bodies("q") == ["m"]
+    full.tell()
+    wait_for(lambda: '\\"jump\\":' in run("dump", str(full.journal)).stdout)
+    full.gateway.kill()
+    full.gateway.start()
+    assert full.bodies("q") == ["m"]
+
+
 def test_each_program_has_a_file_and_no_other_number_of_them_is_taken(tmp_path):
     journal = tmp_path / "journal"
     words = ("--journal", str(journal))

@@ -217,6 +217,11 @@ impl Books {
         found.into_iter().for_each(|book| book.has_program = true);
     }
 
+    /// The one that is written to is to say once more which program has it, and what is said with that.
+    pub fn program_is_unsaid(&self, place: usize) {
+        self.books().entry(place).or_default().iter_mut().last().into_iter().for_each(|book| book.has_program = false);
+    }
+
     /// Whether the one that is written to says which program has it.
     pub fn has_program(&self, place: usize) -> bool {
         self.books().get(&place).and_then(|books| books.last()).is_some_and(|book| book.has_program)
