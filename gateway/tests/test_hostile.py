@@ -247,6 +247,8 @@ def test_connections_above_the_bound_are_told_503_and_others_go_on():
     try:
         call = ByJson(gateway.url)
         call("CreateQueue", QueueName="q.fifo", Attributes={"FifoQueue": "true"})
+        # The connection of that request has its place for a moment.
+        time.sleep(0.5)
         kept = [connect(gateway) for _ in range(8)]
         for connection in kept:
             connection.sendall(head(b"ListQueues", 2) + b"{}")
@@ -264,7 +266,7 @@ def test_connections_above_the_bound_are_told_503_and_others_go_on():
         assert read_response(kept[0])[0] == 200
         for connection in kept:
             connection.close()
-        time.sleep(0.2)
+        time.sleep(0.5)
         serves(gateway)
     finally:
         assert gateway.stop() == 0

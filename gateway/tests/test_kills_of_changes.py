@@ -1,5 +1,5 @@
-"""The gateway is killed at random moments while tags and attributes change, queues of one name come and go, messages move
-to queues that go meanwhile, and segments are written anew.
+"""The gateway is killed at random moments while tags and attributes change, queues of one name come and go, and messages
+move to queues that go meanwhile.
 
 Each client has queues of its own, so what it was told last is what has to be there; of what it was told nothing both may.
 """
