@@ -38,7 +38,7 @@ class Connection:
 
 def start(journal: Path) -> tuple[subprocess.Popen, str, float]:
     begun = time.monotonic()
-    words = [os.environ["HOBBYCHAIR_GATEWAY"], "serve", "--port", "0", "--journal", str(journal)]
+    words = [os.environ["HOBBYCHAIR_GATEWAY"], "serve", "--port", "0", "--journal", str(journal), "--journal-size", "4GiB"]
     process = subprocess.Popen(words, stdout=subprocess.PIPE, text=True)
     for line in process.stdout:
         if line.startswith("listening on "):

@@ -324,8 +324,8 @@ const CQ_TIMEOUT: u32 = 30;
 const REQUEST_MEMORY: u64 = 256 << 20;
 const LEAST_REQUEST_MEMORY: usize = 64 << 20;
 
-/// In MiB, what cq takes.
-const LEAST_KEPT: u64 = 64;
+/// In MiB, what cq takes. In less than that its store may find no space beside the lines that led to it.
+const LEAST_KEPT: u64 = 96;
 const MOST_KEPT: u64 = 1 << 20;
 
 impl Options {
@@ -514,14 +514,14 @@ mod tests {
     #[test]
     fn a_file_gives_what_the_options_leave_out() {
         let file: Options = toml::from_str(
-            "host = \"::1\"\nport = 1\nmemory = \"1MiB\"\njournal-size = \"64MiB\"\njournal = \"j\"\nadmin = 9325\nopen = true\n\
+            "host = \"::1\"\nport = 1\nmemory = \"1MiB\"\njournal-size = \"96MiB\"\njournal = \"j\"\nadmin = 9325\nopen = true\n\
              [[queue]]\nname = \"a.fifo\"\nattributes = { FifoQueue = \"true\" }\n[[queue]]\nname = \"b.fifo\"\n",
         )
         .unwrap();
         let options = Options { port: Some(2), ..Options::default() };
         let settings = settings(options.or(file)).unwrap();
         assert_eq!((settings.host.as_str(), settings.port, settings.open), ("::1", 2, true));
-        assert_eq!((settings.memory, settings.journal.unwrap().of(0).size), (Some(1 << 20), Some(64)));
+        assert_eq!((settings.memory, settings.journal.unwrap().of(0).size), (Some(1 << 20), Some(96)));
         assert_eq!(settings.admin, Some("9325".parse().unwrap()));
         assert_eq!((settings.connections, settings.polls), (10_000, 9_000));
         let names: Vec<_> = settings.queues.iter().map(|queue| queue.name.as_str()).collect();
@@ -555,9 +555,9 @@ mod tests {
         let little = Options { request_memory: Some(Size(1 << 20)), ..Options::default() };
         let peek = Options { peek: Some(true), ..Options::default() };
         let (journal, shards) = (Some(PathBuf::from("a")), Some(2));
-        let small = Options { journal, shards, journal_size: Some(Size(127 << 20)), ..Options::default() };
-        let kept = Options { journal_size: Some(Size(130 << 20)), ..small.clone() };
-        assert_eq!(settings(kept).unwrap().journal.unwrap().of(1).size, Some(65));
+        let small = Options { journal, shards, journal_size: Some(Size(191 << 20)), ..Options::default() };
+        let kept = Options { journal_size: Some(Size(194 << 20)), ..small.clone() };
+        assert_eq!(settings(kept).unwrap().journal.unwrap().of(1).size, Some(97));
         for bad in [alone, none, size, small, many, little, peek] {
             assert!(settings(bad).unwrap_err().is::<Misuse>());
         }

@@ -19,6 +19,12 @@ pub const QUEUE_BYTES: u64 = 4_096;
 /// 50,000 of them both processes grew by 3,405 bytes each, and with 4,000 by 3,535: the store's maps don't shrink.
 pub const ID_BYTES: u64 = 3_500;
 
+/// What a message takes in the bytes of a store beside its envelope (`docs/WIRE.md`, "A store"): 62 bytes, its group and its
+/// deduplication id. What is left of it as long as its id counts, and what a queue takes beside the texts of its entries.
+pub const STORED_MESSAGE_BYTES: u64 = 200;
+pub const STORED_ID_BYTES: u64 = 100;
+pub const STORED_QUEUE_BYTES: u64 = 2_000;
+
 /// What is left of the call of a send to a standard queue for five minutes, in bytes: a part of its digest, kept twice,
 /// and which message it sent.
 pub const CALL_BYTES: u64 = 120;

@@ -31,9 +31,9 @@ pub struct Upgrade<'a> {
     pub progress: &'a Arc<AtomicU64>,
 }
 
-/// A file is made at least so many times as large as the earlier journal's: its store stands there twice for a moment, beside
-/// the lines that led to it.
-const TIMES_AS_LARGE: u64 = 3;
+/// The files are made at least so many times as large together as the earlier journal's: what that has takes a quarter of them at
+/// most then, and leaves space for more.
+const TIMES_AS_LARGE: u64 = 6;
 
 impl Upgrade<'_> {
     /// Has the files of the journal be there. Nobody else has them for as long as what this gives is kept.

@@ -33,7 +33,7 @@ def pytest_sessionstart() -> None:
 
 @pytest.fixture(autouse=True)
 def journals_go(request) -> Iterator[None]:
-    """The files of journals go with their test: each has 64 MiB."""
+    """The files of journals go with their test: each has 96 MiB."""
     room = request.getfixturevalue("tmp_path") if "tmp_path" in request.fixturenames else None
     yield
     for file in room.rglob("*.cq[0-9]*") if room else []:

@@ -28,7 +28,7 @@ def _with_small_journal(words: list[str]) -> list[str]:
     if "--journal" not in words or "--journal-size" in words:
         return words
     programs = int(words[words.index("--shards") + 1]) if "--shards" in words else 1
-    return [*words, "--journal-size", f"{64 * programs}MiB"]
+    return [*words, "--journal-size", f"{96 * programs}MiB"]
 
 
 def files_of(journal: Path) -> list[Path]:

@@ -30,7 +30,7 @@ def test_a_first_start_on_a_full_disk_ends_and_leaves_nothing(tmp_path, small_di
     (disk / "spare").write_bytes(b"\0" * free)
     filler = fill(disk)
     (disk / "spare").unlink()
-    words = ["--journal", str(disk / "journal"), "--journal-size", "64MiB"]
+    words = ["--journal", str(disk / "journal"), "--journal-size", "96MiB"]
     for _ in range(3):
         ended = run("--port", "0", *words)
         assert ended.returncode == 1 and "JournalFailed" in ended.stderr, ended.stderr
@@ -44,7 +44,7 @@ def test_a_first_start_on_a_full_disk_ends_and_leaves_nothing(tmp_path, small_di
 def test_a_disk_that_is_filled_later_takes_nothing_from_a_journal(tmp_path, small_disk):
     """It is filled and freed ten times, while messages come and go and the gateway is killed."""
     disk = small_disk("140m")
-    gateway = Started("--journal", str(disk / "journal"), "--journal-size", "64MiB")
+    gateway = Started("--journal", str(disk / "journal"), "--journal-size", "96MiB")
     call = lambda action, **members: ByJson(gateway.url)(action, **members)
     call("CreateQueue", QueueName="q.fifo", Attributes={"FifoQueue": "true", "VisibilityTimeout": "600"})
     there: list[str] = []

@@ -150,7 +150,7 @@ def test_a_journal_whose_making_is_cut_off_is_made_again(tmp_path):
         room = tmp_path / str(turn)
         room.mkdir()
         for delay in (0.004 * turn, 0.01 * turn):
-            words = ["--port", "0", "--journal", str(room / "journal"), "--shards", "2", "--journal-size", "128MiB"]
+            words = ["--port", "0", "--journal", str(room / "journal"), "--shards", "2", "--journal-size", "192MiB"]
             starting = subprocess.Popen(command(*words), env=environment(), stdout=subprocess.PIPE)
             time.sleep(delay)
             starting.kill()

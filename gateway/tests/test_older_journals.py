@@ -214,7 +214,7 @@ class BesideTheStore:
         self.journal.with_name("journal.1").write_bytes(self.old)
         assert self.old.startswith(b"hobbychair journal 7\n")
         (room / "clock").write_text(str(self.told["moment"]))
-        self.words = ["--journal", str(self.journal), "--shards", "2", "--journal-size", "128MiB",
+        self.words = ["--journal", str(self.journal), "--shards", "2", "--journal-size", "192MiB",
                       "--clock-file", str(room / "clock"), *self.cq.words()]
 
     def start(self) -> None:
@@ -280,7 +280,7 @@ class ToUpgrade:
     def __init__(self, version: int, room: Path, clock: Path) -> None:
         self.old = gzip.decompress(Path(__file__).with_name(f"version{version}.journal.gz").read_bytes())
         shards = 2 if version == 7 else 1
-        self.words = ["--journal", str(room / "journal"), "--journal-size", f"{64 * shards}MiB", "--shards", str(shards),
+        self.words = ["--journal", str(room / "journal"), "--journal-size", f"{96 * shards}MiB", "--shards", str(shards),
                       "--clock-file", str(clock)]
         self.file = room / ("journal" if version == 1 else "journal.1")
         self.file.write_bytes(self.old)
@@ -387,7 +387,7 @@ def older_journal(room: Path, version: int) -> Path:
 
 
 def start(path: Path, *words: str) -> subprocess.CompletedProcess:
-    return run("--port", "0", "--journal", str(path), "--journal-size", "128MiB", "--shards", "2", *words)
+    return run("--port", "0", "--journal", str(path), "--journal-size", "192MiB", "--shards", "2", *words)
 
 
 def last_with_records(data: bytes) -> int:

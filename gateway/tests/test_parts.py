@@ -73,7 +73,7 @@ def resident(gateway: Started) -> int:
 
 
 def test_the_gateway_keeps_nothing_of_a_body(tmp_path, kind):
-    kept = Kept(tmp_path, kind, "--journal-size", "256MiB")
+    kept = Kept(tmp_path, kind, "--journal-size", "512MiB")
     kept.send("x" * LONGEST, "0")
     before = resident(kept.gateway)
     for number in range(1, 60):

@@ -497,6 +497,12 @@ impl Queues {
         self.bytes_in_use.load(Ordering::Relaxed)
     }
 
+    /// What these queues take in the bytes of stores, by an estimate. Takes time in proportion to the number of queues.
+    pub fn bytes_stored(&self, is_among: impl Fn(&QueueName) -> bool) -> u64 {
+        let queues = self.all_and_delays().into_iter().filter(|queue| is_among(&queue.name));
+        queues.map(|queue| queue.state().bytes_stored(self.keeps_copies)).sum()
+    }
+
     /// Takes out of the count what counts no more at this moment. Takes time in proportion to the number of queues.
     pub fn look_at_ages(&self, now: Moment) {
         for queue in self.all_and_delays() {

@@ -27,7 +27,7 @@ use crate::attributes::QueueAttributes;
 use crate::clock::Moment;
 use crate::errors::SqsError;
 use crate::handles::Receipt;
-use crate::limits::{ID_BYTES, MESSAGE_BYTES};
+use crate::limits::{ID_BYTES, MESSAGE_BYTES, QUEUE_BYTES, STORED_ID_BYTES, STORED_MESSAGE_BYTES, STORED_QUEUE_BYTES};
 use crate::lines::{read_receipt, StoreMessage, StoreReply};
 use crate::messages::{has_parts, own_id, Envelope, EnvelopeHead};
 use crate::move_tasks::{MoveTask, Status};
@@ -476,6 +476,18 @@ impl State {
         let messages = MESSAGE_BYTES * self.messages.len() as u64;
         let tables = self.attempts.bytes() + self.older.bytes() + self.calls.bytes();
         self.envelope_bytes + tables + messages + ID_BYTES * self.left_ids
+    }
+
+    /// What the queue and its messages take in the bytes of a store, by estimates for what stands beside texts.
+    pub fn bytes_stored(&self, keeps_copies: bool) -> u64 {
+        if self.removed {
+            return 0;
+        }
+        // The copies are kept here alone. What a book says may stand there twice.
+        let envelopes = self.envelope_bytes / if keeps_copies { 2 } else { 1 };
+        let entries = 2 * self.own_bytes.saturating_sub(QUEUE_BYTES) + STORED_QUEUE_BYTES;
+        let (messages, ids) = (self.messages.len() as u64, self.left_ids);
+        envelopes + entries + STORED_MESSAGE_BYTES * messages + STORED_ID_BYTES * ids
     }
 
     /// How many bytes a receive of `size` messages takes at most until it is answered: their envelopes, what is shown of

@@ -1,7 +1,7 @@
 //! Answers: what the program said, and who is told.
 
 use super::entries::{Entry, Open, OpenAsk};
-use super::room::adds;
+use super::room::{adds, refusal_for_room};
 use super::{Ended, Task};
 use crate::errors::SqsError;
 use crate::lines::{self, OutputLine, StoreReply, NO_ROOM};
@@ -186,15 +186,5 @@ impl Task {
     /// Lets the answers go that are there.
     pub(super) fn send_answers(&mut self) {
         self.finished.drain(..).for_each(|(sender, answers)| sender.send(answers));
-    }
-}
-
-/// What is told of a request for which a program's journal has no room. `adds`: it adds something that stays.
-fn refusal_for_room(adds: bool) -> SqsError {
-    let message = "The journal is full.".into();
-    if adds {
-        SqsError::OverLimit(message)
-    } else {
-        SqsError::ServiceUnavailable(message)
     }
 }

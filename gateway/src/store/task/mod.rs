@@ -7,6 +7,7 @@ mod entries;
 mod moving;
 mod outgoing;
 mod room;
+mod space;
 mod starting;
 
 use std::collections::{HashMap, VecDeque};
@@ -34,6 +35,7 @@ use clients::{Clients, CLIENTS};
 use entries::{Entry, Open, OpenAsk, Pending};
 use moving::Moving;
 use outgoing::Outgoing;
+use space::Space;
 
 /// Why the store doesn't go on.
 #[derive(Debug, Error)]
@@ -82,6 +84,7 @@ struct Task {
     line: u64,
     /// The next line of output is that of the line which should have given a refused request's answer.
     is_put_next: bool,
+    space: Space,
     admission: Arc<Admission>,
     counters: Arc<Counters>,
     /// How many open requests the counters know of.
@@ -144,6 +147,8 @@ pub fn start(start: Start) -> (Store, Ends) {
         let begun = start.kept.as_ref().and_then(|kept| kept.begun.get(shard.place()).copied());
         // Numbers in use begin above all that any earlier run can have used.
         let (line, last_number) = begun.unwrap_or_else(|| (0, start.clock.now() << 20));
+        let file = start.kept.as_ref().and_then(|kept| kept.files.get(shard.place()).cloned());
+        let length = file.as_ref().and_then(|file| std::fs::metadata(&file.path).ok()).map(|found| found.len());
         let mut task = Task {
             shard,
             program: start.program.clone(),
@@ -151,9 +156,10 @@ pub fn start(start: Start) -> (Store, Ends) {
             cq,
             queues: start.queues.clone(),
             clock: start.clock.clone(),
-            file: start.kept.as_ref().and_then(|kept| kept.files.get(shard.place()).cloned()),
+            file,
             line,
             is_put_next: false,
+            space: Space::new(length),
             admission: admission.clone(),
             counters: counters.clone(),
             open_counted: 0,

@@ -5,6 +5,7 @@ use std::sync::Arc;
 use serde_json::value::RawValue;
 
 use super::entries::{Entry, Open, OpenAsk, Pending, StartOutcome};
+use super::room::{adds, refusal_for_room};
 use super::{Ended, Task, PIECE};
 use crate::clock::Moment;
 use crate::errors::SqsError;
@@ -98,12 +99,29 @@ impl Task {
             }
         }
         let ask = stamped(ask, &queue, moment);
+        let raw = serde_json::value::to_raw_value(&AskFields::of(store, base, &ask))?;
+        if !self.has_space(&ask, raw.get().len() as u64, moment) {
+            self.counters.count_lack_of_room();
+            return ready(Err(refusal_for_room(true)));
+        }
         let weight = match self.admission.admit(&ask, moment) {
             Ok(weight) => weight,
             Err(error) => return ready(Err(error)),
         };
-        let raw = serde_json::value::to_raw_value(&AskFields::of(store, base, &ask))?;
         self.ask_admitted(queue, ask, raw, moment, weight)
+    }
+
+    /// Whether the program's file has space for so many bytes more that stay, if this adds them.
+    fn has_space(&mut self, ask: &Ask, bytes: u64, now: Moment) -> bool {
+        if !adds(ask) {
+            return true;
+        }
+        let (queues, shard, admission) = (&self.queues, self.shard, &self.admission);
+        self.space.take(bytes, || {
+            // Ids that count no more are in the count until then.
+            admission.look_at_ages(now);
+            queues.bytes_stored(|name| shard.has(name))
+        })
     }
 
     fn ask_admitted(
