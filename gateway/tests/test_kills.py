@@ -125,7 +125,7 @@ class FifoLoad(Load):
 def test_what_was_acknowledged_outlives_kills(tmp_path):
     journal = tmp_path / "journal"
     load = FifoLoad(7)
-    gateway = Started("--journal", str(journal), room=tmp_path)
+    gateway = Started("--journal", str(journal), "--journal-size", "256MiB", room=tmp_path)
     call = ByBoto3(gateway.client())
     url = call("CreateQueue", QueueName="q.fifo", Attributes={"FifoQueue": "true"}, tags={"a": "b"})["QueueUrl"]
     name = url.rsplit("/", 1)[-1]

@@ -262,7 +262,8 @@ class LoadOfBothKinds(Load):
 
 def test_what_was_acknowledged_of_both_kinds_outlives_kills(tmp_path):
     print(f"seed {SEED}")
-    gateway = Started("--journal", str(tmp_path / "journal"), "--shards", "2", "--no-pauses", room=tmp_path)
+    gateway = Started("--journal", str(tmp_path / "journal"), "--journal-size", "512MiB", "--shards", "2", "--no-pauses",
+                      room=tmp_path)
     load = LoadOfBothKinds(gateway, SEED)
     acknowledged = 0
     for kill in range(1, KILLS + 1):

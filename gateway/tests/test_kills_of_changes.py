@@ -243,7 +243,8 @@ class LoadOfChanges(Load):
 
 def test_what_was_told_of_queues_and_messages_outlives_kills(tmp_path):
     print(f"seed {SEED}")
-    gateway = Started("--journal", str(tmp_path / "journal"), "--shards", "2", "--no-pauses", room=tmp_path)
+    gateway = Started("--journal", str(tmp_path / "journal"), "--journal-size", "512MiB", "--shards", "2", "--no-pauses",
+                      room=tmp_path)
     load = LoadOfChanges(gateway, SEED)
     chance, clients = load.random, load.clients
     done = drains = 0

@@ -192,7 +192,7 @@ def test_a_message_that_moves_takes_its_parts_along(tmp_path, kind, shards):
 def test_what_is_left_after_kills_has_its_parts_and_nothing_else_does(tmp_path, kind):
     """Random sends, deletes and moves of large and small messages, with kills between, by a seed."""
     chance = random.Random(len(kind))
-    kept = Kept(tmp_path, kind)
+    kept = Kept(tmp_path, kind, "--journal-size", "512MiB")
     kept.create(f"dead{kind}")
     policy = {"deadLetterTargetArn": f"arn:aws:sqs:us-east-1:000000000000:dead{kind}", "maxReceiveCount": 2}
     kept.call("SetQueueAttributes", QueueUrl=kept.name, Attributes={"RedrivePolicy": json.dumps(policy)})
