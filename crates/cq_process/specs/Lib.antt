@@ -1,0 +1,3 @@
+pub mod Outgoing
+pub mod Putting
+pub mod Taking

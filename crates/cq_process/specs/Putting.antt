@@ -1,0 +1,101 @@
+-- What writing the next piece of a message does, at the end of a link and to what a core stands for.
+use Rattle.std.specs.Prelude.{◌≡◌, ℕ, ◌+◌, List, ◌++◌, Option, None, Some, Bool, true, false, Result, Ok, Err, if◌then◌else◌, ⊤}
+use Rattle.cq_base.specs.declared.party.Party.{Party}
+use Rattle.cq_chain.specs.declared.message.Message as rust
+use Rattle.cq_chain.specs.declared.server.Server as rust_server
+use Rattle.cq_chain.specs.Parties.{same}
+use Rattle.cq_chain_wire.specs.declared.writer.MessageWriter.{MessageWriter}
+use Rattle.cq_chain_wire.specs.Pieces.{IsNextPiece}
+use Rattle.cq_events.specs.Actions.{Put, StandsAs, Keeps}
+use Rattle.cq_events.specs.Acts.{Acts}
+use Rattle.cq_process.specs.declared.outgoing.PutFault.{PutFault}
+use Rattle.cq_process.specs.declared.outgoing.Written.{Written}
+use Rattle.cq_process.specs.declared.outgoing.Written.TheVariants as what
+use Rattle.cq_process.specs.Outgoing.{End, IsFresh}
+
+-- with that message held for one party
+abbrev pub with_back : (Party → Option rust.Message) → Party → Option rust.Message → Party → Option rust.Message
+with_back back to o p = if same p to then o else back p
+
+-- nothing is done, but the first message for that party may have left the core's outbox and be held
+abbrev pub Passes : rust_server.Server → rust_server.Server → (Party → Option rust.Message) → Party → Option rust.Message → Type 0
+Passes old new back to held = Keeps StandsAs (record { core = old; back = back }) (record { core = new; back = with_back back to held })
+
+-- A piece of the message that is held is written behind the bytes: the next one from where the writer was.
+pub record WritesPiece (message : rust.Message) (before after : MessageWriter) (is_last : Bool) (old new : List ℕ) : Type 0 where
+  pub text : List ℕ
+  pub bytes : new ≡ old ++ text
+  pub piece : IsNextPiece message before after text
+  pub last : after.is_done ≡ is_last
+
+-- A piece is written and more are left of the message, which is held.
+pub record WritesSome (before after : End) (old new : List ℕ) : Type 0 where
+  pub message : rust.Message
+  pub was : before.held ≡ Some message
+  pub held : after.held ≡ Some message
+  pub written : WritesPiece message before.writer after.writer false old new
+
+-- The last piece is written, and none is held; the next message begins at its start.
+pub record WritesLast (before after : End) (old new : List ℕ) : Type 0 where
+  pub message : rust.Message
+  pub was : before.held ≡ Some message
+  pub writer : MessageWriter
+  pub written : WritesPiece message before.writer writer true old new
+  pub held : after.held ≡ None
+  pub fresh : IsFresh after.writer
+
+-- ---- of the first message for a party
+
+-- The message is the one that was held, if one was.
+abbrev pub IsHeld : Option rust.Message → rust.Message → Type 0
+IsHeld held message = (x : rust.Message) → held ≡ Some x → message ≡ x
+
+-- A piece of the first message for the party is written, and more are left of it. Nothing is put yet.
+pub record WritesOn (a b : rust_server.Server) (to : Party) (before after : End) (old new : List ℕ) : Type 0 where
+  pub message : rust.Message
+  pub same : IsHeld before.held message
+  pub held : after.held ≡ Some message
+  pub written : WritesPiece message before.writer after.writer false old new
+  pub kept : (back : Party → Option rust.Message) → back to ≡ before.held → Passes a b back to (Some message)
+
+-- The last piece of the first message for the party is written, and the message is put. The next one begins at its start.
+pub record PutsNext (a b : rust_server.Server) (to : Party) (before after : End) (old new : List ℕ) : Type 0 where
+  pub message : rust.Message
+  pub same : IsHeld before.held message
+  pub writer : MessageWriter
+  pub written : WritesPiece message before.writer writer true old new
+  pub put : (back : Party → Option rust.Message) → back to ≡ before.held → Acts (Put to message) (record { core = a; back = back }) (record { core = b; back = with_back back to None })
+  pub held : after.held ≡ None
+  pub fresh : IsFresh after.writer
+
+-- Nothing is written, nothing is put, and the writer stays where it was.
+pub record Idles (a b : rust_server.Server) (to : Party) (before after : End) : Type 0 where
+  pub writer : after.writer ≡ before.writer
+  pub same : (x : rust.Message) → before.held ≡ Some x → after.held ≡ Some x
+  pub kept : (back : Party → Option rust.Message) → back to ≡ before.held → Passes a b back to after.held
+
+-- ---- by what a call answers
+
+-- it answers a piece of which more are left
+abbrev pub OnPiece : Result Written PutFault → Type 0 → Type 0
+OnPiece (Ok (what.Piece number)) holds = holds
+OnPiece other holds = ⊤
+
+-- it answers the last piece of a message
+abbrev pub OnMessage : Result Written PutFault → Type 0 → Type 0
+OnMessage (Ok (what.Message number)) holds = holds
+OnMessage other holds = ⊤
+
+-- it answers no piece
+abbrev pub OnNone : Result Written PutFault → Type 0 → Type 0
+OnNone (Ok what.Nothing) holds = holds
+OnNone (Ok (what.Piece number)) holds = ⊤
+OnNone (Ok (what.Message number)) holds = ⊤
+OnNone (Err fault) holds = holds
+
+-- The number that is told is one above that of the last message that was put, and counts with the message's last piece.
+abbrev pub IsNumbered : Result Written PutFault → ℕ → ℕ → Type 0
+IsNumbered (Ok what.Nothing) before after = after ≡ before
+IsNumbered (Ok (what.Piece number)) before after = (number ≡ before + 1) × (after ≡ before)
+IsNumbered (Ok (what.Message number)) before after = (number ≡ before + 1) × (after ≡ number)
+IsNumbered (Err fault) before after = after ≡ before

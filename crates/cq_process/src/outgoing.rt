@@ -1,0 +1,160 @@
+//! The end of a link to one party: a message is put once all of its pieces are written.
+ghost use Rattle.std.specs.Prelude.{◌≡◌, ◌≤◌, ◌<◌, List, [], Option, None, Some, true, false, Ok, Err};
+ghost use Rattle.cq_base.specs.declared.party.Party as rust_party;
+ghost use Rattle.cq_chain.specs.declared.message.Message as rust_message;
+ghost use Rattle.cq_chain.specs.Messages as sent;
+ghost use Rattle.cq_chain.specs.Servers as states;
+ghost use Rattle.cq_chain.specs.Stands.{StandsFor};
+ghost use Rattle.cq_process.specs.declared.outgoing.TheConstants.{LINK_LIMIT};
+ghost use Rattle.cq_process.specs.declared.outgoing.PutFault.TheVariants as faults;
+ghost use Rattle.cq_process.specs.declared.outgoing.Written.TheVariants as what;
+ghost use Rattle.cq_process.specs.Outgoing.{IsFresh};
+ghost use Rattle.cq_process.specs.Putting.{Idles, IsNumbered, OnMessage, OnNone, OnPiece, Passes, PutsNext, WritesLast, WritesOn, WritesSome};
+
+use cq_base::Party;
+use cq_chain::{Message, Server};
+use cq_chain_wire::MessageWriter;
+use std::alloc::Global;
+use std::marker::Model;
+use thiserror::Error;
+
+/// The largest number of a message on a link.
+pub const LINK_LIMIT: u64 = u64::MAX;
+
+/// The end of a link to one party. It has the number of the last message that was put, and the message that is being written,
+/// if there is one: that left the core's outbox with its first piece, and is put with its last.
+#[derive(Drop)]
+pub struct Outgoing {
+    alloc: Global,
+    put: u64,
+    held: Option<Message>,
+    writer: MessageWriter,
+}
+
+impl Model for Outgoing {
+    ghost use Rattle.cq_process.specs.Outgoing.{End, GoesOn};
+
+    ghost Value = { End };
+
+    ghost view = { λ o. record { put = o.put; held = o.held; writer = o.writer } };
+
+    ghost invariant = { λ o. GoesOn o.held o.writer };
+}
+
+/// What was written.
+#[derive(Clone, Copy, Debug, PartialEq, Eq)]
+pub enum Written {
+    /// Nothing: no message waits.
+    Nothing,
+    /// A piece of the message of that number, of which more are left.
+    Piece { number: u64 },
+    /// The last piece of the message of that number, which is put.
+    Message { number: u64 },
+}
+
+/// Why nothing was written.
+#[derive(Clone, Copy, Debug, PartialEq, Eq, Error)]
+pub enum PutFault {
+    #[error("the link has no number left")]
+    NumbersSpent,
+    #[error("out of memory")]
+    NoMemory,
+}
+
+/// The message that is held, or else the first one that waits for the party, which leaves the core's outbox.
+fn first_of(core: &mut Server, to: Party, held: Option<Message>) -> Option<Message>
+    ensures passes { (back : rust_party.Party → Option rust_message.Message) → back to ≡ held
+        → Passes core.old core.new back to result }
+    ensures same { (x : rust_message.Message) → held ≡ Some x → result ≡ Some x }
+    ensures none { result ≡ None → held ≡ None }
+    ensures empty { result ≡ None → (s : states.Server) (outbox : rust_party.Party → List sent.Message) → StandsFor core.old s outbox
+        → outbox to ≡ [] }
+{
+    match held {
+        Some(message) => Some(message),
+        None => core.put(to),
+    }
+}
+
+impl Outgoing {
+    /// Nothing was put. It keeps the allocator.
+    pub fn new(alloc: Global) -> Outgoing
+        ensures number { result.put ≡ 0 }
+        ensures held { result.held ≡ None }
+        ensures begins { IsFresh result.writer }
+    {
+        Outgoing {
+            alloc,
+            put: 0,
+            held: None,
+            writer: MessageWriter::new(alloc),
+        }
+    }
+
+    /// The number of the last message that was put, 0 before the first one: O(1).
+    pub fn last_put(&self) -> u64
+        ensures { result ≡ self.now.put }
+    {
+        self.put
+    }
+
+    /// Writes the next piece of the message that is held, if one is.
+    fn write(&mut self, bytes: &mut Vec<u8>, enough: usize) -> Result<Written, PutFault>
+        requires { self.old.put < LINK_LIMIT }
+        ensures unspent { result ≡ Err faults.NumbersSpent → ⊥ }
+        ensures numbers { IsNumbered result self.old.put self.new.put }
+        ensures some { OnPiece result (WritesSome self.old self.new bytes.old.items bytes.new.items) }
+        ensures last { OnMessage result (WritesLast self.old self.new bytes.old.items bytes.new.items) }
+        ensures idle { OnNone result (self.new ≡ self.old) }
+        ensures bytes { OnNone result (bytes.new.items ≡ bytes.old.items) }
+        ensures nothing { result ≡ Ok what.Nothing → self.old.held ≡ None }
+    {
+        let message = match &self.held {
+            Some(message) => message,
+            None => return Ok(Written::Nothing),
+        };
+        if self.writer.next(message, bytes, enough).is_err() {
+            return Err(PutFault::NoMemory);
+        }
+        if !self.writer.is_done() {
+            return Ok(Written::Piece {
+                number: self.put + 1,
+            });
+        }
+        self.held = None;
+        self.writer = MessageWriter::new(self.alloc);
+        self.put += 1;
+        Ok(Written::Message { number: self.put })
+    }
+
+    /// Writes the next piece of the first message for that party behind the bytes: of the one that is being written, or else of
+    /// the first one that waits. A plain message is one piece; one of a snapshot has at most 2.7 MB more than `enough` bytes. The
+    /// message is put with its last piece. The party has to be the same at each call.
+    ///
+    /// After `NoMemory` no piece is written, and the same one is the next; `NumbersSpent` comes behind `LINK_LIMIT` messages.
+    /// O(bytes of the piece), and of a snapshot a search for each message: O(log messages).
+    pub fn put_next(
+        &mut self,
+        core: &mut Server,
+        to: Party,
+        bytes: &mut Vec<u8>,
+        enough: usize,
+    ) -> Result<Written, PutFault>
+        ensures spent { LINK_LIMIT ≤ self.old.put → result ≡ Err faults.NumbersSpent }
+        ensures unspent { self.old.put < LINK_LIMIT → result ≡ Err faults.NumbersSpent → ⊥ }
+        ensures numbers { IsNumbered result self.old.put self.new.put }
+        ensures some { OnPiece result (WritesOn core.old core.new to self.old self.new bytes.old.items bytes.new.items) }
+        ensures last { OnMessage result (PutsNext core.old core.new to self.old self.new bytes.old.items bytes.new.items) }
+        ensures idle { OnNone result (Idles core.old core.new to self.old self.new) }
+        ensures bytes { OnNone result (bytes.new.items ≡ bytes.old.items) }
+        ensures held { result ≡ Ok what.Nothing → self.old.held ≡ None }
+        ensures empty { result ≡ Ok what.Nothing → (s : states.Server) (outbox : rust_party.Party → List sent.Message) → StandsFor core.old s outbox
+            → outbox to ≡ [] }
+    {
+        if self.put == LINK_LIMIT {
+            return Err(PutFault::NumbersSpent);
+        }
+        self.held = first_of(core, to, self.held.take());
+        self.write(bytes, enough)
+    }
+}
