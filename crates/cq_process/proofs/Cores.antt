@@ -1,18 +1,22 @@
 -- What the calls of a core tell of a process that holds, for each party, the message that is being written.
-use Rattle.std.proofs.Common.{◌≡◌, ◌∙◌, ap, sym, refl, subst, cond, List, [], ◌∷◌, ◌++◌, drop, Bool, true, false, Option, Some, None, Result, Ok, Err, OnOk}
+use Rattle.std.proofs.Common.{◌≡◌, ℕ, ◌∙◌, ap, sym, refl, subst, cond, List, [], ◌∷◌, ◌++◌, drop, Bool, true, false, Option, Some, None, Result, Ok, Err, OnOk}
+use Rattle.cq_base.specs.declared.ask.Query.{Query}
+use Rattle.cq_base.specs.declared.ask.Request.{Request}
 use Rattle.cq_base.specs.declared.party.Party.{Party}
+use Rattle.cq_chain.specs.declared.fault.WorldFault.{WorldFault}
 use Rattle.cq_chain.specs.declared.message.Message as rust
 use Rattle.cq_chain.specs.declared.server.Server as rust_server
 use Rattle.cq_chain.specs.Messages.{Message}
 use Rattle.cq_chain.specs.Parties.{same, addressed}
-use Rattle.cq_chain.specs.Refusals.{refusal_of_taking}
+use Rattle.cq_chain.specs.Refusals.{refusal_of_arrival, refusal_of_query, refusal_of_taking}
 use Rattle.cq_chain.specs.Servers.{Server}
 use Rattle.cq_chain.specs.Stands as chain
-use Rattle.cq_chain.specs.Stands.{Means, IsFirst, posted, drained}
-use Rattle.cq_chain.specs.Steps.{Step, takes}
-use Rattle.cq_events.specs.Actions.{Took, Put, CoreState, behind, Heads, StandsAs, Steps, Keeps}
+use Rattle.cq_chain.specs.Stands.{Means, IsFirst, IsRefusedBy, drained}
+use Rattle.cq_chain.specs.Steps.{Step, arrived, asked, takes}
+use Rattle.cq_events.specs.Actions.{Arrived, Asked, Put, behind, Heads, StandsAs, Steps, Keeps}
 use Rattle.cq_events.specs.Acts.{Acts}
 use Rattle.cq_events.proofs.Parties.{same-true, same-refl, same-turned}
+use Rattle.cq_process.specs.Asking.{ActsBeside}
 use Rattle.cq_process.specs.Putting.{with_back, Passes}
 use Rattle.cq_process.specs.Taking.{TakesOne}
 
@@ -38,6 +42,18 @@ pub took-done : {E : Type 0} (old new : rust_server.Server) (back : Party → Op
     → ((s : Server) (outbox : Party → List Message) (m : Message) → chain.StandsFor old s outbox → Means x m → OnOk r (refusal_of_taking from m s ≡ None)) → OnOk r (TakesOne old new back from x)
 took-done old new back from x (Ok u) h free = (λ m means. step-done old new back (takes from m) (h m means), λ m means s outbox i. free s (λ to. behind (back to) (outbox to)) m i.0 means)
 took-done old new back from x (Err e) h free = tt
+
+-- ---- requests and queries
+
+pub arrived-done : (old new : rust_server.Server) (back : Party → Option rust.Message) (clock : ℕ) (request : Request) (r : Result (Unit {0}) WorldFault) → OnOk r (chain.Does old new (arrived clock request))
+    → ((s : Server) (outbox : Party → List Message) → chain.StandsFor old s outbox → IsRefusedBy (refusal_of_arrival s) r) → OnOk r (ActsBeside (Arrived clock request) old new back)
+arrived-done old new back clock request (Ok u) h free = (step-done old new back (arrived clock request) h, λ s outbox i. free s (λ to. behind (back to) (outbox to)) i.0)
+arrived-done old new back clock request (Err e) h free = tt
+
+pub asked-done : (old new : rust_server.Server) (back : Party → Option rust.Message) (query : Query) (r : Result (Unit {0}) WorldFault) → OnOk r (chain.Does old new (asked query))
+    → ((s : Server) (outbox : Party → List Message) → chain.StandsFor old s outbox → IsRefusedBy (refusal_of_query s) r) → OnOk r (ActsBeside (Asked query) old new back)
+asked-done old new back query (Ok u) h free = (step-done old new back (asked query) h, λ s outbox i. free s (λ to. behind (back to) (outbox to)) i.0)
+asked-done old new back query (Err e) h free = tt
 
 -- ---- puts
 

@@ -1,2 +1,4 @@
 pub mod Cores
+pub mod Pieces
+pub mod Throwing
 pub mod Writing

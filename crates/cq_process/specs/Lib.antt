@@ -1,3 +1,5 @@
+pub mod Asking
+pub mod Laws
 pub mod Outgoing
 pub mod Putting
 pub mod Taking

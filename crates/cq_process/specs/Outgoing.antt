@@ -1,5 +1,5 @@
 -- What the end of a link to a party has.
-use Rattle.std.specs.Prelude.{◌≡◌, ℕ, [], Option, None, Some, false}
+use Rattle.std.specs.Prelude.{◌≡◌, ℕ, [], Option, None, false}
 use Rattle.cq_chain.specs.declared.message.Message as rust
 use Rattle.cq_chain_wire.specs.declared.writer.MessageWriter.{MessageWriter}
 use Rattle.cq_store_wire.specs.declared.writer.Place.TheVariants as places

@@ -1,13 +1,15 @@
 -- What writing the next piece of a message does, at the end of a link and to what a core stands for.
-use Rattle.std.specs.Prelude.{◌≡◌, ℕ, ◌+◌, List, ◌++◌, Option, None, Some, Bool, true, false, Result, Ok, Err, if◌then◌else◌, ⊤}
+use Rattle.std.specs.Prelude.{◌≡◌, ℕ, ◌+◌, List, length, map, ◌++◌, Option, None, Some, Bool, true, false, Result, Ok, Err, if◌then◌else◌, ⊤}
 use Rattle.cq_base.specs.declared.party.Party.{Party}
 use Rattle.cq_chain.specs.declared.message.Message as rust
 use Rattle.cq_chain.specs.declared.server.Server as rust_server
+use Rattle.cq_chain.specs.Messages as messages
 use Rattle.cq_chain.specs.Parties.{same}
+use Rattle.cq_chain.specs.Servers as states
 use Rattle.cq_chain_wire.specs.declared.writer.MessageWriter.{MessageWriter}
 use Rattle.cq_chain_wire.specs.Pieces.{IsNextPiece}
 use Rattle.cq_events.specs.Actions.{Put, StandsAs, Keeps}
-use Rattle.cq_events.specs.Acts.{Acts}
+use Rattle.cq_events.specs.Acts.{Acts, ServerActs}
 use Rattle.cq_process.specs.declared.outgoing.PutFault.{PutFault}
 use Rattle.cq_process.specs.declared.outgoing.Written.{Written}
 use Rattle.cq_process.specs.declared.outgoing.Written.TheVariants as what
@@ -73,6 +75,19 @@ pub record Idles (a b : rust_server.Server) (to : Party) (before after : End) : 
   pub writer : after.writer ≡ before.writer
   pub same : (x : rust.Message) → before.held ≡ Some x → after.held ≡ Some x
   pub kept : (back : Party → Option rust.Message) → back to ≡ before.held → Passes a b back to after.held
+
+-- ---- what is thrown away
+
+-- The core with what is held stands for that, and that is held for the party.
+abbrev pub StandsWith : rust_server.Server → (Party → Option rust.Message) → Option rust.Message → Party → states.Server → (Party → List messages.Message) → Type 0
+StandsWith core back held to s outbox = (back to ≡ held) × StandsAs (record { core = core; back = back }) s outbox
+
+-- Messages for the party are put one after another, and none is written. Each counts.
+pub record Throws (a b : rust_server.Server) (to : Party) (before after : End) : Type 0 where
+  pub messages : List rust.Message
+  pub number : after.put ≡ before.put + length messages
+  pub puts : (back : Party → Option rust.Message) → back to ≡ before.held
+      → ServerActs (record { core = a; back = back }) (map (λ x. Put to x) messages) (record { core = b; back = with_back back to after.held })
 
 -- ---- by what a call answers
 

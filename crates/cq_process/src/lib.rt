@@ -1,8 +1,13 @@
-//! What a process that keeps one server of a chain does at the two ends of its links. `specs/` holds the rules.
+//! What a process that keeps one server of a chain does when it is asked, and at the two ends of its links. `specs/` holds the rules.
 #![tactic(auto)]
 
+mod asks;
 mod incoming;
+pub mod laws;
 mod outgoing;
+mod reads;
 
+pub use asks::{arrive, ask};
 pub use incoming::{Incoming, TakeFault, Taken};
 pub use outgoing::{LINK_LIMIT, Outgoing, PutFault, Written};
+pub use reads::standing;

@@ -1,5 +1,5 @@
 //! The end of a link to one party: a message is put once all of its pieces are written.
-ghost use Rattle.std.specs.Prelude.{◌≡◌, ◌≤◌, ◌<◌, List, [], Option, None, Some, true, false, Ok, Err};
+ghost use Rattle.std.specs.Prelude.{◌≡◌, ◌+◌, ◌≤◌, ◌<◌, List, [], Option, None, Some, true, false, Ok, Err, OnOk, OnErr, IfErr};
 ghost use Rattle.cq_base.specs.declared.party.Party as rust_party;
 ghost use Rattle.cq_chain.specs.declared.message.Message as rust_message;
 ghost use Rattle.cq_chain.specs.Messages as sent;
@@ -9,7 +9,7 @@ ghost use Rattle.cq_process.specs.declared.outgoing.TheConstants.{LINK_LIMIT};
 ghost use Rattle.cq_process.specs.declared.outgoing.PutFault.TheVariants as faults;
 ghost use Rattle.cq_process.specs.declared.outgoing.Written.TheVariants as what;
 ghost use Rattle.cq_process.specs.Outgoing.{IsFresh};
-ghost use Rattle.cq_process.specs.Putting.{Idles, IsNumbered, OnMessage, OnNone, OnPiece, Passes, PutsNext, WritesLast, WritesOn, WritesSome};
+ghost use Rattle.cq_process.specs.Putting.{Idles, IsNumbered, OnMessage, OnNone, OnPiece, Passes, PutsNext, StandsWith, Throws, WritesLast, WritesOn, WritesSome};
 
 use cq_base::Party;
 use cq_chain::{Message, Server};
@@ -156,5 +156,84 @@ impl Outgoing {
         }
         self.held = first_of(core, to, self.held.take());
         self.write(bytes, enough)
+    }
+
+    /// Whether nothing waits for that party: no message is held, and none waits in the core's outbox.
+    fn is_empty(&self, core: &Server, to: Party) -> bool
+        ensures held { result ≡ true → self.now.held ≡ None }
+        ensures empty { result ≡ true → (s : states.Server) (outbox : rust_party.Party → List sent.Message) → StandsFor core.now s outbox
+            → outbox to ≡ [] }
+        ensures waits { result ≡ false → (back : rust_party.Party → Option rust_message.Message) (s : states.Server) (outbox : rust_party.Party → List sent.Message)
+            → StandsWith core.now back self.now.held to s outbox → outbox to ≡ [] → ⊥ }
+    {
+        self.held.is_none() && core.waiting(to) == 0
+    }
+
+    /// The message that is held is thrown away, if one is, and counts.
+    fn throw_held(&mut self)
+        requires { self.old.put < LINK_LIMIT }
+        ensures some { (x : rust_message.Message) → self.old.held ≡ Some x → self.new.put ≡ self.old.put + 1 }
+        ensures none { self.old.held ≡ None → self.new.put ≡ self.old.put }
+        ensures few { self.new.put ≤ self.old.put + 1 }
+        ensures held { self.new.held ≡ None }
+    {
+        if self.held.is_none() {
+            return;
+        }
+        self.held = None;
+        self.writer = MessageWriter::new(self.alloc);
+        self.put += 1;
+    }
+
+    /// The first message for that party is put and thrown away, if there is one.
+    fn throw_first(&mut self, core: &mut Server, to: Party)
+        requires { self.old.put < LINK_LIMIT }
+        ensures throws { Throws core.old core.new to self.old self.new }
+        ensures counts { (back : rust_party.Party → Option rust_message.Message) (s : states.Server) (outbox : rust_party.Party → List sent.Message)
+            → StandsWith core.old back self.old.held to s outbox → (outbox to ≡ [] → ⊥) → self.new.put ≡ self.old.put + 1 }
+        ensures few { self.new.put ≤ self.old.put + 1 }
+    {
+        self.held = first_of(core, to, self.held.take());
+        self.throw_held();
+    }
+
+    /// The same, after a look at whether anything waits: it answers whether nothing does.
+    fn throw_next(&mut self, core: &mut Server, to: &Party) -> bool
+        requires { self.old.put < LINK_LIMIT }
+        ensures throws { Throws core.old core.new to.now self.old self.new }
+        ensures counts { result ≡ false → (back : rust_party.Party → Option rust_message.Message) (s : states.Server) (outbox : rust_party.Party → List sent.Message)
+            → StandsWith core.old back self.old.held to.now s outbox → self.new.put ≡ self.old.put + 1 }
+        ensures few { self.new.put ≤ self.old.put + 1 }
+        ensures held { result ≡ true → self.new.held ≡ None }
+        ensures empty { result ≡ true → (s : states.Server) (outbox : rust_party.Party → List sent.Message) → StandsFor core.new s outbox
+            → outbox to.now ≡ [] }
+    {
+        let party = *to;
+        if self.is_empty(core, party) {
+            return true;
+        }
+        let party = *to;
+        self.throw_first(core, party);
+        false
+    }
+
+    /// All that waits for that party, which is gone, is put and thrown away; so is a message of which some pieces were written. The
+    /// party has to be the one of each `put_next`. `NumbersSpent` comes behind `LINK_LIMIT` messages, and then some may wait still.
+    /// It takes no memory: O(messages).
+    pub fn throw_all(&mut self, core: &mut Server, to: Party) -> Result<(), PutFault>
+        ensures throws { Throws core.old core.new to self.old self.new }
+        ensures held { OnOk result (self.new.held ≡ None) }
+        ensures empty { OnOk result ((s : states.Server) (outbox : rust_party.Party → List sent.Message) → StandsFor core.new s outbox
+            → outbox to ≡ []) }
+        ensures fault { IfErr result (λ fault. fault ≡ faults.NumbersSpent) }
+        ensures spent { (back : rust_party.Party → Option rust_message.Message) (s : states.Server) (outbox : rust_party.Party → List sent.Message)
+            → StandsWith core.old back self.old.held to s outbox → OnErr result (LINK_LIMIT ≤ self.new.put) }
+    {
+        for _ in self.last_put()..LINK_LIMIT {
+            if self.throw_next(core, &to) {
+                return Ok(());
+            }
+        }
+        Err(PutFault::NumbersSpent)
     }
 }
