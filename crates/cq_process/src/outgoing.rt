@@ -8,7 +8,7 @@ ghost use Rattle.cq_chain.specs.Stands.{StandsFor};
 ghost use Rattle.cq_process.specs.declared.outgoing.TheConstants.{LINK_LIMIT};
 ghost use Rattle.cq_process.specs.declared.outgoing.PutFault.TheVariants as faults;
 ghost use Rattle.cq_process.specs.declared.outgoing.Written.TheVariants as what;
-ghost use Rattle.cq_process.specs.Outgoing.{IsFresh};
+ghost use Rattle.cq_process.specs.Outgoing.{GoesOn, IsFresh};
 ghost use Rattle.cq_process.specs.Putting.{Idles, IsNumbered, OnMessage, OnNone, OnPiece, Passes, PutsNext, StandsWith, Throws, WritesLast, WritesOn, WritesSome};
 
 use cq_base::Party;
@@ -96,6 +96,14 @@ impl Outgoing {
         ensures { result ≡ self.now.put }
     {
         self.put
+    }
+
+    /// What holds of each end: a piece is left of the message that is held, and where none is, the writer is at its start. It does
+    /// nothing.
+    pub fn goes_on(&self)
+        ensures { GoesOn self.now.held self.now.writer }
+    {
+        let _held = &self.held;
     }
 
     /// Writes the next piece of the message that is held, if one is.
