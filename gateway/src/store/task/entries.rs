@@ -4,6 +4,7 @@ use std::sync::Arc;
 
 use serde_json::value::RawValue;
 
+use super::room::adds;
 use crate::clock::Moment;
 use crate::queues::ask::Ask;
 use crate::queues::Queue;
@@ -14,6 +15,16 @@ pub(super) struct Open {
     pub(super) entry: Entry,
     /// In the last entry of a job.
     pub(super) sender: Option<AnswerSender>,
+}
+
+impl Open {
+    /// How many bytes that stay it asks to add.
+    pub(super) fn bytes_added(&self) -> u64 {
+        match &self.entry {
+            Entry::Ask(asked) if adds(&asked.ask) => asked.raw.get().len() as u64,
+            _ => 0,
+        }
+    }
 }
 
 pub(super) enum Entry {

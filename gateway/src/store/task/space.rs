@@ -3,7 +3,7 @@
 //! A program puts its store in the place of the lines that led to it, and needs space for that beside them. Where a store is too
 //! large, it never finds it, and the deletes of many small messages need more space than is left. So sends are refused before.
 
-use std::time::{Duration, Instant};
+use std::time::Instant;
 
 use crate::limits::Bound;
 
@@ -19,18 +19,18 @@ const COUNTED_OF_REGION: u64 = 12 << 20;
 /// What was added is looked at again once it is so small a part of that.
 const PARTS: u64 = 32;
 
-/// Where there is no space, it is looked at again after this.
-const LOOK_AGAIN: Duration = Duration::from_secs(1);
+/// Where there is no space, it is looked at again after so many times as long as a look takes, which grows with the queues.
+const RESTS: u32 = 20;
 
 /// The space of one program.
 pub(super) struct Space {
     bound: Bound,
-    /// What its store took when it was looked at last, in bytes.
+    /// What its store took when it was looked at last, with what was asked and not answered yet, in bytes.
     counted: u64,
-    /// What was asked to be added since then, and between the two looks before: that may not have been there yet.
+    /// What was asked to be added since then.
     added: u64,
-    added_before: u64,
-    looked: Option<Instant>,
+    /// Where there is no space, it isn't looked at before this. None: it was never looked at.
+    rests_until: Option<Instant>,
 }
 
 impl Space {
@@ -38,18 +38,19 @@ impl Space {
     pub(super) fn new(file: Option<u64>) -> Space {
         let bound = Bound::default();
         bound.set(file.map(|bytes| bytes.saturating_sub(ROOT) / REGION / SHARE * COUNTED_OF_REGION));
-        Space { bound, counted: 0, added: 0, added_before: 0, looked: None }
+        Space { bound, counted: 0, added: 0, rests_until: None }
     }
 
-    /// Whether there is space for so many bytes more, which are added then. `look` tells what the store takes.
+    /// Whether there is space for so many bytes more, which are added then. `look` tells what the store takes, with what was asked
+    /// and not answered yet.
     pub(super) fn take(&mut self, bytes: u64, look: impl FnOnce() -> u64) -> bool {
         let Some(limit) = self.bound.limit() else { return true };
-        let is_first = self.looked.is_none();
-        let has_rested = self.looked.map_or(true, |looked| looked.elapsed() >= LOOK_AGAIN);
-        let is_due = is_first || self.added > limit / PARTS;
-        if is_due || (has_rested && self.bound.is_full(self.with(bytes))) {
-            (self.counted, self.added_before, self.added) = (look(), self.added, 0);
-            self.looked = Some(Instant::now());
+        let has_rested = || self.rests_until.map_or(true, |until| until <= Instant::now());
+        let is_due = self.added > limit / PARTS || self.bound.is_full(self.with(bytes)) && has_rested();
+        if is_due || self.rests_until.is_none() {
+            let begun = Instant::now();
+            (self.counted, self.added) = (look(), 0);
+            self.rests_until = Some(Instant::now() + RESTS * begun.elapsed());
         }
         let has_space = !self.bound.is_full(self.with(bytes));
         if has_space {
@@ -59,16 +60,18 @@ impl Space {
     }
 
     fn with(&self, more: u64) -> u64 {
-        self.counted + self.added_before + self.added + more
+        self.counted + self.added + more
     }
 }
 
 #[cfg(test)]
 mod tests {
+    use std::time::Duration;
+
     use super::*;
 
     #[test]
-    fn what_is_added_counts_until_it_was_looked_at_twice() {
+    fn what_is_added_counts_from_one_look_to_the_next() {
         const ADDED: u64 = 1_000_000;
         let mut space = Space::new(Some(256 << 20));
         assert_eq!(space.bound.limit(), Some(60 << 20));
@@ -82,10 +85,11 @@ mod tests {
         while take(taken) {
             taken += 1;
         }
-        // 95 % are used, of which two looks may count a part twice.
-        assert!((52..60).contains(&taken) && (20..40).contains(&looks), "{taken} {looks}");
+        // 95 % are used, and each 32nd part is looked at.
+        assert!(taken == 59 && (25..40).contains(&looks), "{taken} {looks}");
+        space.rests_until = Some(Instant::now() + Duration::from_secs(3600));
         assert!(!space.take(ADDED, || 0), "it isn't looked at so soon");
-        space.looked = Some(Instant::now() - LOOK_AGAIN);
+        space.rests_until = Some(Instant::now());
         assert!(space.take(ADDED, || 0));
     }
 

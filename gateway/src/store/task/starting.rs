@@ -116,11 +116,11 @@ impl Task {
         if !adds(ask) {
             return true;
         }
-        let (queues, shard, admission) = (&self.queues, self.shard, &self.admission);
+        let (queues, shard, admission, open) = (&self.queues, self.shard, &self.admission, &self.open);
         self.space.take(bytes, || {
             // Ids that count no more are in the count until then.
             admission.look_at_ages(now);
-            queues.bytes_stored(|name| shard.has(name))
+            queues.bytes_stored(|name| shard.has(name)) + open.iter().map(Open::bytes_added).sum::<u64>()
         })
     }
 
