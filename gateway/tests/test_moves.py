@@ -12,7 +12,7 @@ from pathlib import Path
 
 import pytest
 
-from started import IS_KEPT_BY_CQ, ByJson, Refused, Started, program
+from started import ByJson, Refused, Started, program
 from steered import SteeredCq
 
 COUNT = 3
@@ -139,7 +139,7 @@ def test_messages_of_a_task_that_is_cut_off_are_moved_once(tmp_path, kind, by):
             time.sleep(0.01)
         moved = int(task()["ApproximateNumberOfMessagesMoved"])
         # Where nothing but the store is kept, the book says it for each ten messages.
-        assert moved == COUNT or IS_KEPT_BY_CQ and by == "gateway" and 0 <= moved < COUNT, passing
+        assert moved == COUNT or by == "gateway" and 0 <= moved < COUNT, passing
         assert [message["Body"] for message in cut.receive(target)] == [str(number) for number in range(COUNT)], passing
         assert cut.receive(cut.dead) == []
         cut.call("DeleteQueue", QueueUrl=target)
