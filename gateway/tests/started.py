@@ -136,14 +136,21 @@ class Started:
 
 
 def programs_of(gateway: Started) -> list[int]:
-    """The processes of cq in the order of their starts, which is that of their shards. Each thread of the gateway has a
-    list of the children that it started. One that ends meanwhile leaves them to another: then all are read anew."""
+    """The processes of cq in the order of their shards: by the files that they keep, or else by their starts. Each thread of
+    the gateway has a list of the children that it started. One that ends meanwhile leaves them to another: then all are read
+    anew."""
     while True:
         lists = list(Path(f"/proc/{gateway.process.pid}/task").glob("*/children"))
         try:
-            return sorted(int(child) for child in " ".join(one.read_text() for one in lists).split())
+            children = [int(child) for one in lists for child in one.read_text().split()]
+            return sorted(children, key=lambda child: (_file_kept_by(child), child))
         except (FileNotFoundError, ProcessLookupError):
             continue
+
+
+def _file_kept_by(child: int) -> str:
+    words = Path(f"/proc/{child}/cmdline").read_text().split("\0")
+    return words[words.index("--journal") + 1] if "--journal" in words else ""
 
 
 def boto3_client(url: str | None, **more: Any):
