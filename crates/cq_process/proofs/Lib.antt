@@ -1,4 +1,6 @@
 pub mod Cores
+pub mod Ends
 pub mod Pieces
+pub mod Takes
 pub mod Throwing
 pub mod Writing

@@ -1,5 +1,7 @@
 pub mod Asking
+pub mod Faults
 pub mod Laws
+pub mod Links
 pub mod Outgoing
 pub mod Putting
 pub mod Taking

@@ -10,6 +10,7 @@ ghost use Rattle.cq_chain.specs.Stands.{Keeps, Means, StandsFor};
 ghost use Rattle.cq_chain_wire.specs.declared.reader.Progress.TheVariants.{More, Whole};
 ghost use Rattle.cq_process.specs.declared.incoming.TakeFault.TheVariants.{NotNext};
 ghost use Rattle.cq_process.specs.declared.incoming.Taken.TheVariants as what;
+ghost use Rattle.cq_process.specs.Faults.{take_code};
 ghost use Rattle.cq_process.specs.Taking.{IsLeft, IsReadAs, IsRefusedFor, TakesNext, TakesOne, nothing, number_after, read_on};
 ghost use Rattle.cq_wire.specs.Reading.{Gives};
 
@@ -52,6 +53,19 @@ pub enum TakeFault {
     Refused(WorldFault),
 }
 
+impl TakeFault {
+    /// The number under which the fault is told.
+    pub fn code(&self) -> u16
+        ensures { result ≡ take_code self.now }
+    {
+        match self {
+            TakeFault::NotNext => 45,
+            TakeFault::Unread(fault) => fault.code(),
+            TakeFault::Refused(fault) => fault.code(),
+        }
+    }
+}
+
 /// Gives the core a message, which comes back where it isn't taken.
 fn give(core: &mut Server, from: Party, message: Message) -> Result<(), Untaken>
     ensures ok { (back : rust_party.Party → Option rust_message.Message)
@@ -84,8 +98,8 @@ impl Incoming {
         self.taken
     }
 
-    /// That number is one above the last one.
-    fn is_next(&self, number: u64) -> bool
+    /// Whether that number is one above the last one: O(1).
+    pub fn is_next(&self, number: u64) -> bool
         ensures { result ≡ (number == self.now.taken + 1) }
     {
         0 < number && number - 1 == self.taken

@@ -8,6 +8,7 @@ ghost use Rattle.cq_chain.specs.Stands.{StandsFor};
 ghost use Rattle.cq_process.specs.declared.outgoing.TheConstants.{LINK_LIMIT};
 ghost use Rattle.cq_process.specs.declared.outgoing.PutFault.TheVariants as faults;
 ghost use Rattle.cq_process.specs.declared.outgoing.Written.TheVariants as what;
+ghost use Rattle.cq_process.specs.Faults.{put_code};
 ghost use Rattle.cq_process.specs.Outgoing.{GoesOn, IsFresh};
 ghost use Rattle.cq_process.specs.Putting.{Idles, IsNumbered, OnMessage, OnNone, OnPiece, Passes, PutsNext, StandsWith, Throws, WritesLast, WritesOn, WritesSome};
 
@@ -59,6 +60,18 @@ pub enum PutFault {
     NumbersSpent,
     #[error("out of memory")]
     NoMemory,
+}
+
+impl PutFault {
+    /// The number under which the fault is told.
+    pub fn code(&self) -> u16
+        ensures { result ≡ put_code self.now }
+    {
+        match self {
+            PutFault::NumbersSpent => 46,
+            PutFault::NoMemory => 20,
+        }
+    }
 }
 
 /// The message that is held, or else the first one that waits for the party, which leaves the core's outbox.
