@@ -405,7 +405,7 @@ impl<'a, P: PutEnd<Message> + Drop, T: TakeEnd<Message> + Drop> MasterNode<'a, P
     pub fn run<R: Wait, G: Gate>(&mut self, rt: &R, turns: u64, gate: &G) -> Stop
         ensures { IsSameNode P.link T.link self.old self.new }
     {
-        let mut waits = Waits::of(self.flags, Party::Master);
+        let mut waits = Waits::of(self.flags, Party::Master, !self.joins.is_empty());
         for _ in 0..turns {
             if !gate.enter(Party::Master, self.turns.saturating_add(1)) {
                 return Stop::Shut;

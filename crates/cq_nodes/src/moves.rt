@@ -84,14 +84,46 @@ pub fn put_one<R: Wait, P: PutEnd<Message> + Drop>(
     put_first(rt, core, to, out)
 }
 
-/// Gives the core a message, which comes back where it isn't taken.
-fn read(core: &mut Server, from: Party, message: Message) -> Result<(), Untaken>
+/// Whether a message has a store, which would be copied where it is lent.
+fn has_store(message: &Message) -> bool {
+    matches!(message, Message::Snap { .. })
+}
+
+/// Hands the core a message over, which comes back where it isn't taken.
+fn hand_over(core: &mut Server, from: Party, message: Message) -> Result<(), Untaken>
     ensures ok { (back : rust_party.Party → Option rust_message.Message)
         → OnOk result (TakesOne core.old core.new back from message) }
     ensures err { OnErr result (Keeps core.old core.new) }
     ensures back { IfErr result (λ untaken. untaken.message ≡ message) }
 {
     core.take_owned(from, message)
+}
+
+/// Lends the core a message, which comes back where it isn't taken.
+fn lend(core: &mut Server, from: Party, message: Message) -> Result<(), Untaken>
+    ensures ok { (back : rust_party.Party → Option rust_message.Message)
+        → OnOk result (TakesOne core.old core.new back from message) }
+    ensures err { OnErr result (Keeps core.old core.new) }
+    ensures back { IfErr result (λ untaken. untaken.message ≡ message) }
+{
+    match core.take(from, &message) {
+        Ok(()) => Ok(()),
+        Err(fault) => Err(Untaken { message, fault }),
+    }
+}
+
+/// Gives the core a message, which comes back where it isn't taken. To lend it moves fewer bytes than to hand it over.
+fn read(core: &mut Server, from: Party, message: Message) -> Result<(), Untaken>
+    ensures ok { (back : rust_party.Party → Option rust_message.Message)
+        → OnOk result (TakesOne core.old core.new back from message) }
+    ensures err { OnErr result (Keeps core.old core.new) }
+    ensures back { IfErr result (λ untaken. untaken.message ≡ message) }
+{
+    if has_store(&message) {
+        hand_over(core, from, message)
+    } else {
+        lend(core, from, message)
+    }
 }
 
 /// The message that was taken but not read, or else the next one of the link.

@@ -389,7 +389,7 @@ impl<
     pub fn run<R: Wait, G: Gate>(&mut self, rt: &R, turns: u64, gate: &G) -> Stop
         ensures { IsSameServer P.link T.link I.link self.old self.new }
     {
-        let mut waits = Waits::of(self.flags, Party::Server(self.id));
+        let mut waits = Waits::of(self.flags, Party::Server(self.id), false);
         for _ in 0..turns {
             if !gate.enter(Party::Server(self.id), self.turns.saturating_add(1)) {
                 return Stop::Shut;

@@ -15,12 +15,9 @@ const LOOKS: u32 = 256;
 /// Then it lets other threads run, so often at most, before it sleeps.
 const YIELDS: u32 = 64;
 
-/// After a sleep in which nobody rang, so many turns of a client or of the master follow before it waits again: a client
+/// Behind a sleep in which nobody rang, so many turns of a node whose turns count follow before it sleeps again: a client
 /// asks again after so many turns, and a server joins at one of the master's.
 const TURNS_AFTER_SLEEP: u32 = 64;
-
-/// And so many of a server: turns alone bring it nothing.
-const SERVER_TURNS_AFTER_SLEEP: u32 = 4;
 
 /// For so many waits at least, and at most, a node doesn't yield once yields have taken long.
 const SHORTEST_PAUSE: u32 = 64;
@@ -38,8 +35,10 @@ pub(crate) struct Waits<'a> {
     flags: &'a Flags,
     bell: Option<&'a Bell>,
     is_master: bool,
-    /// So many turns follow a sleep in which nobody rang.
+    /// So many turns follow a sleep in which nobody rang, beside the first one.
     turns_after_sleep: u32,
+    /// Whether nobody rang in the last sleep, and no turn did anything since.
+    is_quiet: bool,
     /// Turns in a row without work, of a node that doesn't sleep.
     idle: u32,
     /// So many turns without work follow before the next wait.
@@ -51,18 +50,14 @@ pub(crate) struct Waits<'a> {
 }
 
 impl<'a> Waits<'a> {
-    /// Before the first turn of that party's node.
-    pub(crate) fn of(flags: &'a Flags, party: Party) -> Waits<'a> {
-        let is_master = party == Party::Master;
+    /// Before the first turn of that party's node. `do_turns_count`: time alone may bring it something.
+    pub(crate) fn of(flags: &'a Flags, party: Party, do_turns_count: bool) -> Waits<'a> {
         Waits {
             flags,
             bell: flags.bell(party),
-            is_master,
-            turns_after_sleep: if is_master {
-                TURNS_AFTER_SLEEP
-            } else {
-                SERVER_TURNS_AFTER_SLEEP
-            },
+            is_master: party == Party::Master,
+            turns_after_sleep: if do_turns_count { TURNS_AFTER_SLEEP } else { 0 },
+            is_quiet: false,
             idle: 0,
             credit: 0,
             shy: 0,
@@ -77,6 +72,7 @@ impl<'a> Waits<'a> {
             bell: Some(flags.client_bell(second)),
             is_master: false,
             turns_after_sleep: TURNS_AFTER_SLEEP,
+            is_quiet: false,
             idle: 0,
             credit: 0,
             shy: 0,
@@ -96,6 +92,7 @@ impl<'a> Waits<'a> {
         if turn == Turn::Worked {
             self.idle = 0;
             self.credit = 0;
+            self.is_quiet = false;
             return false;
         }
         if self.credit > 0 {
@@ -123,12 +120,13 @@ impl<'a> Waits<'a> {
         }
     }
 
-    /// Looks, yields, and then sleeps.
+    /// Looks, yields, and then sleeps. Where it slept and nothing came, it sleeps again at once.
     fn wait_for<R: Wait>(&mut self, rt: &R, bell: &Bell) {
-        if rings_soon(bell) || self.yields_until(bell) {
+        if !self.is_quiet && (rings_soon(bell) || self.yields_until(bell)) {
             return;
         }
-        if bell.sleep(rt) {
+        self.is_quiet = bell.sleep(rt);
+        if self.is_quiet {
             self.credit = self.turns_after_sleep;
             if self.is_master {
                 self.flags.beat();
