@@ -42,6 +42,17 @@ base_means size header kept text bytes session is again means =
 -- ---- sessions
 
 module _ {D : Type 0} {g : Ghosts D} where
+  -- nothing is kept, and nothing was run
+  pub kept_begun : (k : KeptSession D g) → IsJournal k.journal → kept_records k ≡ [] → HasRun k.size [] k.session → k.ended ≡ true → IsKept k
+  kept_begun k journal none run ended = record {
+    journal = journal;
+    whole = λ _. ap (λ rs. is_at_lines (read fresh (joined rs))) none;
+    run = λ _ bytes stands.
+        let is : bytes ≡ [] = subst (λ rs. AreOf k.size (joined rs) bytes) none stands in
+        subst (λ (l : List ℕ). HasRun k.size l k.session) (sym is) run;
+    ended = λ _. ended ∙ sym (ap (λ rs. is_ended (joined rs)) none);
+  }
+
   -- what is kept is the same, and so is what was run
   pub kept_same : (a b : KeptSession D g) → b.journal ≡ a.journal → b.session ≡ a.session → b.size ≡ a.size → b.ended ≡ a.ended → IsKept a → IsKept b
   kept_same a b journal session size ended k =

@@ -298,6 +298,26 @@ fn highest_client(store: &Store) -> u32 {
     highest
 }
 
+/// How many messages the queue of the name at that place has.
+fn messages_at(store: &Store, index: usize) -> u64 {
+    match store.name(index) {
+        Some((_, kept)) => match kept.living() {
+            Some(queue) => queue.messages().len(),
+            None => 0,
+        },
+        None => 0,
+    }
+}
+
+/// How many messages a store has: O(names).
+fn message_count(store: &Store) -> u64 {
+    let mut count: u64 = 0;
+    for index in 0..store.name_count() {
+        count = count.saturating_add(messages_at(store, index));
+    }
+    count
+}
+
 impl<D: Device> KeptSession<D> {
     ghost use Rattle.cq_kept_session.specs.Kept.{IsKept, StandsFor, kept_records, session_device, session_journal, session_size};
 
@@ -336,8 +356,16 @@ impl<D: Device> KeptSession<D> {
         Ok(true)
     }
 
-    /// Rewrites what is kept where that is due and there is space.
-    pub(crate) fn rewrite_if_due(&mut self) -> Result<(), LogFault>
+    /// How many messages a base would have, or 0 where the session isn't at rest: O(names).
+    pub(crate) fn messages_at_rest(&self) -> u64 {
+        match self.session.store_at_rest() {
+            Some(store) => message_count(store),
+            None => 0,
+        }
+    }
+
+    /// Rewrites what is kept where that is due before lines of so many bytes come, and there is space.
+    pub(crate) fn rewrite_if_due(&mut self, coming: usize) -> Result<(), LogFault>
         requires { IsKept self.old }
 
         ensures kept { OnOk result (IsKept self.new) }
@@ -346,17 +374,23 @@ impl<D: Device> KeptSession<D> {
         // It writes nothing, and what is kept stands for the same.
         ensures serves { OnOk result ((contents : Option (List ℕ)) → Serves self.old self.new contents contents []) }
     {
-        if !self.schedule.is_due() {
+        let lines = self.session.line_count();
+        let used = self.used();
+        if !self.schedule.is_due(used, coming, lines) {
             return Ok(());
         }
         match self.rewrite() {
             Ok(true) => {
-                self.schedule.rewritten(self.journal.region_count());
+                let used = self.used();
+                let messages = self.messages_at_rest();
+                self.schedule.rewritten(used, messages, lines);
                 Ok(())
             }
             Ok(false) => Ok(()),
             Err(LogFault::Full) => {
-                self.schedule.refused(self.journal.region_count());
+                let regions = self.journal.region_count();
+                let messages = self.messages_at_rest();
+                self.schedule.refused(regions, messages, lines);
                 Ok(())
             }
             Err(fault) => Err(fault),

@@ -1,8 +1,9 @@
-//! Whether there is room for lines.
+//! Whether there is room for lines, and whether they leave space for a base.
 ghost use Rattle.std.specs.Prelude.{◌≡◌, ◌⊎◌, ◌≤◌, length, true, false};
 ghost use Rattle.cq_journal.specs.Journal.{HasSpare, IsJournal};
 ghost use Rattle.cq_records.specs.declared.frame.TheConstants.{TEXT_LIMIT};
 ghost use Rattle.cq_kept_session.specs.Classes.{reserve_of};
+ghost use Rattle.cq_kept_session.specs.declared.class.LineClass.TheVariants.{Adds};
 
 use crate::KeptSession;
 use crate::class::LineClass;
@@ -39,5 +40,29 @@ impl<D: Device> KeptSession<D> {
             return true;
         }
         self.journal.has_spare()
+    }
+
+    /// How many bytes behind the root are used: all of each region that counts, but of the last one what it has.
+    pub(crate) fn used(&self) -> usize
+        requires { IsJournal (session_journal self.now) }
+    {
+        let left = self.journal.bytes_left();
+        let regions = self.journal.region_count();
+        regions
+            .saturating_mul(self.journal.region_size())
+            .saturating_sub(left)
+    }
+
+    /// Whether so many bytes of lines of this class leave space for a base, as those have to that add something.
+    pub(crate) fn leaves_space(&self, class: LineClass, len: usize) -> bool
+        requires { IsJournal (session_journal self.now) }
+        ensures { result ≡ false → class ≡ Adds }
+    {
+        match class {
+            LineClass::Adds => self
+                .schedule
+                .has_space(self.used(), len.saturating_add(HEAD_LENGTH)),
+            LineClass::Changes | LineClass::Frees | LineClass::Moves => true,
+        }
     }
 }

@@ -55,7 +55,7 @@ impl<D: Device> KeptSession<D> {
                 }
                 Ok(count) => {
                     self.take_chunk(&mut partial, &chunk[..count], writer)?;
-                    self.rewrite_if_due()?;
+                    self.rewrite_if_due(0)?;
                 }
                 Err(_) => return Err(ServeFault::Read(read_fault(reader))),
             }
@@ -112,7 +112,7 @@ impl<D: Device> KeptSession<D> {
         if partial.len() <= limit {
             return Ok(());
         }
-        self.take_lines(partial, writer)?;
+        self.take_behind_base(partial, writer)?;
         partial.clear();
         Ok(())
     }

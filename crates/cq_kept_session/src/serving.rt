@@ -9,7 +9,7 @@ ghost use Rattle.cq_kept_session.specs.Texts.{as_kept};
 use crate::class::{LineClass, class_of_line};
 use crate::{KeptSession, TakeFault};
 use cq_disk::Device;
-use cq_records::LogFault;
+use cq_records::{HEAD_LENGTH, LogFault};
 use cq_script::{ScriptFault, Sink, cut_line, finish_writing, refused_line, write_text};
 
 /// The number of the refusal that tells that there is no room.
@@ -34,6 +34,24 @@ impl<D: Device> KeptSession<D> {
             return Ok(());
         }
         self.take_each(lines, writer)
+    }
+
+    /// Takes whole lines so, and puts a base in the place of all before where that is due, or where lines that add something would
+    /// leave no space for one.
+    pub(crate) fn take_behind_base<W: Sink>(
+        &mut self,
+        lines: &[u8],
+        writer: &mut W,
+    ) -> Result<(), TakeFault>
+        requires kept { IsKept self.old }
+        requires short { length lines.now ≤ TEXT_LIMIT }
+
+        ensures kept { OnOk result (IsKept self.new) }
+        ensures size { session_size self.new ≡ session_size self.old }
+        ensures serves { OnOk result (Serves self.old self.new (W.contents writer.old) (W.contents writer.new) (as_kept lines.now)) }
+    {
+        self.rewrite_if_due(lines.len().saturating_add(HEAD_LENGTH))?;
+        self.take_lines(lines, writer)
     }
 
     /// Takes or refuses each of these lines.
@@ -79,8 +97,8 @@ impl<D: Device> KeptSession<D> {
         Ok(())
     }
 
-    /// Takes lines of this class where there is room for them. `false`: there is none, and nothing has changed but that a rewrite is due
-    /// earlier.
+    /// Takes lines of this class where there is room for them, and they leave space for a base. `false`: it isn't so, and nothing has
+    /// changed but that a rewrite is due earlier.
     fn take_if_room<W: Sink>(
         &mut self,
         class: LineClass,
@@ -94,6 +112,9 @@ impl<D: Device> KeptSession<D> {
         ensures size { session_size self.new ≡ session_size self.old }
         ensures serves { IfOk result (λ is_taken. Serves self.old self.new (W.contents writer.old) (W.contents writer.new) (if is_taken then as_kept chunk.now else [])) }
     {
+        if !self.leaves_space(class, chunk.len()) {
+            return Ok(false);
+        }
         if !self.has_room(class, chunk.len()) {
             self.schedule.tighten();
             return Ok(false);

@@ -44,7 +44,8 @@ impl<D: Device> KeptSession<D> {
         ensures size { IfOk result (λ session. session_size session ≡ size) }
         ensures lengths { IfOk result (λ session. (journal_half (session_journal session) ≡ half) × (region_len (session_journal session) ≡ len)) }
     {
-        let schedule = Schedule::new(len, device.len().saturating_sub(half).saturating_sub(half));
+        let behind = device.len().saturating_sub(half).saturating_sub(half);
+        let schedule = Schedule::new(size, len, behind);
         let journal = Journal::create(alloc, device, half, len)?;
         Ok(KeptSession::begin(alloc, size, journal, schedule)?)
     }
@@ -69,10 +70,14 @@ impl<D: Device> KeptSession<D> {
         ensures any_moment { IfOk result (λ session. IsTrue (D.is_honest (session_device session)) → (rs : List (List ℕ)) → kept half len (D.seen device) ≡ Some rs
             → LeavesOnly D.moment D.left_since device (session_device session) (λ c. D.may_leave device c ⊎ HasEitherRecords half len rs (mended rs) c)) }
     {
-        let schedule = Schedule::new(len, device.len().saturating_sub(half).saturating_sub(half));
+        let behind = device.len().saturating_sub(half).saturating_sub(half);
+        let schedule = Schedule::new(size, len, behind);
         let journal = Journal::open(alloc, device, half, len)?;
         let mut session = KeptSession::begin(alloc, size, journal, schedule)?;
         session.restore()?;
+        let used = session.used();
+        let messages = session.messages_at_rest();
+        session.schedule.opened(used, messages);
         Ok(session)
     }
 

@@ -1,5 +1,5 @@
 -- The journal is opened, and its last line ended.
-use Rattle.std.proofs.Common.{◌≡◌, ◌⊎◌, inl, inr, ⊎_elim, ℕ, List, Some, sym, ◌∙◌, ap, subst}
+use Rattle.std.proofs.Common.{◌≡◌, ◌⊎◌, inl, inr, ⊎_elim, ℕ, List, Some, refl, sym, ◌∙◌, ap, subst}
 use Rattle.std.specs.Prelude.{IsTrue}
 use Rattle.cq_disk.specs.Device.{LeavesOnly}
 use Rattle.cq_disk.proofs.Moments.{runs_on, weakened}
@@ -8,7 +8,11 @@ use Rattle.cq_journal.specs.Journal.{journal_device, journal_half, journal_recor
 use Rattle.cq_journal.specs.Regions.{kept}
 use Rattle.cq_kept_session.specs.Texts.{mended}
 use Rattle.cq_kept_session.proofs.Mending.{either_at, same_found}
+use Rattle.cq_kept_session.proofs.Rewritten.{kept_same}
 use Rattle.cq_kept_session.proofs.kept.KeptSession.open.Goals as goal
+
+pub returns-clause-kept : goal.returns-clause-kept
+returns-clause-kept g c = kept_same c.restore.new.self _ refl refl refl refl c.in_ok-restore.ensures.kept
 
 pub returns-clause-any_moment : goal.returns-clause-any_moment
 returns-clause-any_moment g c = λ honest rs is.
