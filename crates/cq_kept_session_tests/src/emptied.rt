@@ -4,7 +4,7 @@ ghost use Rattle.cq_kept_session.specs.Kept.{IsKept};
 
 use crate::rewriting::{BEGIN, serve};
 use crate::rooms::{PUT, arrive, refusals};
-use crate::taking::HALF;
+use crate::taking::{HALF, take_pieces};
 use cq_base::ChainSize;
 use cq_disk::{Device, Memory, TornWrites};
 use cq_kept_session::KeptSession;
@@ -19,6 +19,9 @@ const WHOLE: usize = 2 * HALF + 3 * LEN;
 
 /// How many sends are tried at most.
 const TRIES: u64 = 20;
+
+/// So many messages leave no space for a base.
+const TAKEN: u64 = 6;
 
 /// The ask that sends a message which takes more than a fifth of a region.
 fn send(alloc: Global, number: u64) -> Result<String, AllocError> {
@@ -98,8 +101,28 @@ fn fill<D: Device>(
     Ok(TRIES)
 }
 
-/// Where messages have filled a journal, and were deleted, the next message finds room, also if the lines that deleted them
-/// take far less than a message: a base takes the place of all lines as soon as it has space.
+/// Takes messages behind so many that leave no space for a base, by the call that asks for none.
+fn overfill<D: Device>(
+    alloc: Global,
+    kept: &mut KeptSession<D>,
+    taken: u64,
+    told: &mut Vec<u8>,
+) -> Result<(), Fail>
+    requires { IsKept kept.old }
+    ensures { OnOk result (IsKept kept.new) }
+{
+    for count in taken..TAKEN {
+        let number = count.saturating_add(2);
+        let lines = arrive(alloc, number, send(alloc, number)?.as_str())?;
+        take_pieces(kept, lines.as_bytes(), LEN, told)?;
+        take_pieces(kept, PUT.as_bytes(), LEN, told)?;
+    }
+    Ok(())
+}
+
+/// Where messages have filled a journal, and more were taken than leave space for a base, and all were deleted, the next message finds room,
+/// also if the lines that deleted them take far less than a message: a base takes the place of all lines as soon as it has
+/// space.
 #[test]
 fn an_emptied_journal_takes_messages_again(rt: HostRuntime) -> Result<(), Fail> {
     let alloc = rt.alloc();
@@ -109,10 +132,11 @@ fn an_emptied_journal_takes_messages_again(rt: HostRuntime) -> Result<(), Fail> 
     serve(&mut kept, BEGIN, &mut told)?;
     let count = fill(alloc, &mut kept, &mut told)?;
     assert!(rt;
-        4 < count && count < TRIES,
+        2 < count && count < TAKEN,
         "the journal took {count} messages"
     );
-    for place in 0..count {
+    overfill(alloc, &mut kept, count, &mut told)?;
+    for place in 0..TAKEN {
         let sequence = place.saturating_add(1);
         assert!(rt; take_out(alloc, &mut kept, sequence, &mut told)?);
     }

@@ -9,6 +9,8 @@ mod crashes;
 #[cfg(test)]
 mod emptied;
 #[cfg(test)]
+mod filled;
+#[cfg(test)]
 mod openings;
 #[cfg(test)]
 mod rewriting;
