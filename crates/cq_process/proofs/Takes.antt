@@ -1,5 +1,5 @@
 -- Pieces that aren't taken, and messages that are thrown away.
-use Rattle.std.proofs.Common.{◌≡◌, ℕ, ◌+◌, ◌==◌, ◌∙◌, ap, sym, refl, List, Bool, true, false, Result, Ok, Err, Option, None, Some}
+use Rattle.std.proofs.Common.{◌≡◌, ℕ, ◌+◌, ◌==◌, ◌∙◌, sym, refl, List, true, false, Result, Ok, Err, Option, None, Some}
 use Rattle.std.specs.Prelude.{IfErr}
 use Rattle.std.proofs.lemmas.Bool.{eqb-true, eq-eqb, true≢false}
 use Rattle.cq_base.specs.declared.party.Party.{Party}

@@ -1,8 +1,8 @@
 -- What was read is let go where the party has an end.
-use Rattle.std.proofs.Common.{◌≡◌, ◌∙◌, ap, sym, refl, subst, None, Some}
+use Rattle.std.proofs.Common.{◌∙◌, ap, sym, refl, subst, None, Some}
 use Rattle.std.specs.Option.{is_some}
-use Rattle.cq_process.specs.Links.{ChangesOnly, LetsGo, end_of, received, received_from}
-use Rattle.cq_process.proofs.Ends.{both, elsewhere, found, here, none-changes, written}
+use Rattle.cq_process.specs.Links.{LetsGo, end_of, received, received_from}
+use Rattle.cq_process.proofs.Ends.{both, elsewhere, found, here, written}
 use Rattle.cq_process.proofs.incoming_ends.IncomingEnds.let_go.Goals.{in-Some, in-None}
 use Rattle.cq_process.proofs.incoming_ends.IncomingEnds.let_go.Goals as goal
 

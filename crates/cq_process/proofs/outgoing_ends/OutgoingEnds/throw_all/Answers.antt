@@ -1,5 +1,5 @@
 -- The end of the party is written in its place, if there is one.
-use Rattle.std.proofs.Common.{ap, sym, refl, None, Some, ◌∙◌}
+use Rattle.std.proofs.Common.{ap, sym, None, Some, ◌∙◌}
 use Rattle.std.specs.Option.{is_some}
 use Rattle.cq_process.specs.Links.{ThrowsFrom}
 use Rattle.cq_process.proofs.Ends.{both, elsewhere, found, here, no-end, written}
