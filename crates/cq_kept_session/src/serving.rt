@@ -6,7 +6,7 @@ ghost use Rattle.cq_records.specs.declared.frame.TheConstants.{TEXT_LIMIT};
 ghost use Rattle.cq_kept_session.specs.Served.{Serves, no_room_text};
 ghost use Rattle.cq_kept_session.specs.Texts.{as_kept};
 
-use crate::class::{LineClass, class_of_line};
+use crate::class::{LineClass, class_of_line, class_of_lines};
 use crate::{KeptSession, TakeFault};
 use cq_disk::Device;
 use cq_records::{HEAD_LENGTH, LogFault};
@@ -31,6 +31,22 @@ impl<D: Device> KeptSession<D> {
         ensures serves { OnOk result (Serves self.old self.new (W.contents writer.old) (W.contents writer.new) (as_kept lines.now)) }
     {
         if self.take_if_room(LineClass::Adds, lines, writer)? {
+            return Ok(());
+        }
+        self.take_by_class(lines, writer)
+    }
+
+    /// Takes these lines as one where there is room for those of their classes, and else takes or refuses each.
+    fn take_by_class<W: Sink>(&mut self, lines: &[u8], writer: &mut W) -> Result<(), TakeFault>
+        requires kept { IsKept self.old }
+        requires short { length lines.now ≤ TEXT_LIMIT }
+
+        ensures kept { OnOk result (IsKept self.new) }
+        ensures size { session_size self.new ≡ session_size self.old }
+        ensures serves { OnOk result (Serves self.old self.new (W.contents writer.old) (W.contents writer.new) (as_kept lines.now)) }
+    {
+        let class = class_of_lines(self.alloc, lines)?;
+        if self.take_if_room(class, lines, writer)? {
             return Ok(());
         }
         self.take_each(lines, writer)

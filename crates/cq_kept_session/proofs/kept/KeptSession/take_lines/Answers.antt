@@ -1,4 +1,4 @@
--- Where they weren't taken as a whole, each of them was taken or refused.
+-- Where they weren't taken as a whole, they were taken by their classes.
 use Rattle.std.proofs.Common.{[], Bool, subst}
 use Rattle.std.specs.Prelude.{if◌then◌else◌}
 use Rattle.cq_kept_session.specs.Served.{Serves}
@@ -13,6 +13,6 @@ returns-clause-serves g c =
     let a = g.W.Write.contents c.args.writer.now in
     let b = g.W.Write.contents c.take_if_room.new.writer in
     let lines = c.args.lines.now in
-    if_ok c.take_each.result c.take_each.ensures.serves (λ rest.
+    if_ok c.take_by_class.result c.take_by_class.ensures.serves (λ rest.
     let none : Serves old mid a b [] = subst (λ (is : Bool). Serves old mid a b (if is then as_kept lines else [])) c.if-branch.false c.in_ok-take_if_room.ensures.serves in
-    serves_both old mid c.take_each.new.self a b _ [] (as_kept lines) none rest)
+    serves_both old mid c.take_by_class.new.self a b _ [] (as_kept lines) none rest)
