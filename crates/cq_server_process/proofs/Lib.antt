@@ -1,0 +1,3 @@
+pub mod Framing
+pub mod Overwriting
+pub mod Responses

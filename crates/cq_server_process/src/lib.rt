@@ -1,0 +1,10 @@
+//! A process that keeps one server of a chain: what it tells of what it does, as frames. `specs/` holds the rules.
+#![tactic(auto)]
+
+mod front;
+mod patch;
+mod put;
+mod small;
+
+pub use put::{Unput, put_piece};
+pub use small::{tell_done, tell_refused, tell_unread};
