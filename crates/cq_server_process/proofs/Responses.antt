@@ -1,8 +1,9 @@
 -- The bytes of responses of a fixed length.
 use Rattle.std.proofs.Common.{◌≡◌, ℕ, ◌∙◌, ap, sym, refl, List, [], ◌∷◌, ◌++◌, length, append_assoc, length-append, arith, Bool, true, false}
-use Rattle.cq_frames.specs.declared.response.Response.TheVariants.{Refused, Unread, Done}
+use Rattle.cq_base.specs.declared.party.Party.TheVariants.{Server}
+use Rattle.cq_frames.specs.declared.response.Response.TheVariants.{Refused, Unread, Waiting, Done}
 use Rattle.cq_frames.specs.declared.response.Standing.{Standing}
-use Rattle.cq_frames.specs.Layout.{response, standing}
+use Rattle.cq_frames.specs.Layout.{party, response, standing}
 use Rattle.cq_server_process.specs.Frames.{frame}
 use Rattle.cq_server_process.proofs.Overwriting.{length64}
 use Rattle.cq_wire.specs.declared.version.TheConstants.{VERSION}
@@ -19,6 +20,10 @@ refused-frame code = refl
 pub unread-frame : (code : ℕ) → (6 ∷ 0 ∷ 0 ∷ 0 ∷ VERSION ∷ 2 ∷ []) ++ number32 code ≡ frame (Unread code)
 unfolding number32 text whole response
 unread-frame code = refl
+
+pub waiting-frame : (id n : ℕ) → n ≡ id → (7 ∷ 0 ∷ 0 ∷ 0 ∷ VERSION ∷ 3 ∷ 2 ∷ []) ++ number32 n ≡ frame (Waiting (Server id))
+unfolding number32 text whole response party
+waiting-frame id n is = ap (λ m. (7 ∷ 0 ∷ 0 ∷ 0 ∷ VERSION ∷ 3 ∷ 2 ∷ []) ++ number32 m) is
 
 flag-length : (b : Bool) → length (flag b) ≡ 1
 unfolding flag

@@ -7,4 +7,4 @@ mod put;
 mod small;
 
 pub use put::{Unput, put_piece};
-pub use small::{tell_done, tell_refused, tell_unread};
+pub use small::{tell_done, tell_refused, tell_unread, tell_waiting};

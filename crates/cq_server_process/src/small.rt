@@ -1,9 +1,11 @@
 //! Responses that are told in room that was made before.
 ghost use Rattle.std.specs.Prelude.{◌≡◌, ◌+◌, ◌≤◌, ◌++◌, length, vec_capacity, vec_len};
+ghost use Rattle.cq_base.specs.declared.party.Party.TheVariants as parties;
 ghost use Rattle.cq_frames.specs.declared.response.Response.TheVariants as responses;
 ghost use Rattle.cq_server_process.specs.Frames.{frame};
 ghost use Rattle.cq_wire.specs.Layout.{flag, number32, number64};
 
+use cq_base::{Party, ServerId};
 use cq_frames::Standing;
 use cq_wire::VERSION;
 
@@ -90,4 +92,30 @@ pub fn tell_done(out: &mut Vec<u8>, standing: &Standing)
     append_flag(out, standing.is_head);
     append_flag(out, standing.is_acting);
     append_flag(out, standing.is_full);
+}
+
+/// Tells that a message for that server waits.
+fn tell_server_waits(out: &mut Vec<u8>, id: ServerId)
+    requires { vec_len out.old + 11 ≤ vec_capacity out.old }
+    ensures items { out.new.items ≡ out.old.items ++ frame (responses.Waiting (parties.Server id)) }
+    ensures len { vec_len out.new ≡ vec_len out.old + 11 }
+    ensures capacity { vec_capacity out.old ≤ vec_capacity out.new }
+{
+    append(out, &[7, 0, 0, 0, VERSION, 3, 2]);
+    append_u32(out, id.get());
+}
+
+/// Tells that a message for that party waits, in room that is there: O(1).
+#[tactic(auto, unfolding(cq_frames::specs::Layout::party, cq_frames::specs::Layout::response, cq_wire::specs::Layout::whole, cq_wire::specs::Layout::text, cq_wire::specs::Layout::number32))]
+pub fn tell_waiting(out: &mut Vec<u8>, to: &Party)
+    requires { vec_len out.old + 11 ≤ vec_capacity out.old }
+    ensures items { out.new.items ≡ out.old.items ++ frame (responses.Waiting to.now) }
+    ensures len { vec_len out.new ≤ vec_len out.old + 11 }
+    ensures capacity { vec_capacity out.old ≤ vec_capacity out.new }
+{
+    match to {
+        Party::Master => append(out, &[3, 0, 0, 0, VERSION, 3, 0]),
+        Party::Clients => append(out, &[3, 0, 0, 0, VERSION, 3, 1]),
+        Party::Server(id) => tell_server_waits(out, *id),
+    }
 }
