@@ -8,12 +8,12 @@ use std::test::Fail;
 
 /// A server, and its links.
 #[derive(Drop)]
-struct Member {
-    core: Server,
-    links: Links,
+pub struct Member {
+    pub core: Server,
+    pub links: Links,
 }
 
-fn party(number: u32) -> Result<Party, Fail> {
+pub fn party(number: u32) -> Result<Party, Fail> {
     let id = ServerId::new(number).ok_or("no server")?;
     Ok(Party::Server(id))
 }
@@ -27,7 +27,7 @@ fn first(alloc: Global, id: ServerId, size: ChainSize) -> Option<Server> {
 }
 
 /// That server of a first chain of two.
-fn node(alloc: Global, number: u32) -> Result<Member, Fail> {
+pub fn node(alloc: Global, number: u32) -> Result<Member, Fail> {
     let id = ServerId::new(number).ok_or("no server")?;
     let size = ChainSize::new(2).ok_or("no size")?;
     let core = first(alloc, id, size).ok_or("no member")?;
@@ -38,7 +38,7 @@ fn node(alloc: Global, number: u32) -> Result<Member, Fail> {
 }
 
 /// Client 1 creates `q.fifo`.
-fn create(alloc: Global) -> Result<Request, Fail> {
+pub fn create(alloc: Global) -> Result<Request, Fail> {
     let queue = QueueName::new(alloc, "q.fifo")?;
     let visibility = Seconds::new(30).ok_or("no timeout")?;
     Ok(Request {
