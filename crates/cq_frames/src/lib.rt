@@ -21,5 +21,5 @@ pub use fitting::{command_fits, response_fits};
 pub use frame::{FRAME_LIMIT, frame_of, write_frame};
 pub use piece::{PIECE_LIMIT, Piece};
 pub use read::{read_command, read_response};
-pub use response::{Response, Standing};
+pub use response::{NOT_HERE, Response, Standing};
 pub use write::{write_command, write_response};

@@ -2,6 +2,10 @@
 use crate::piece::Piece;
 use cq_base::{Moment, Party};
 
+/// The number under which a command is refused that means nothing to the process, whatever it keeps: a detection or a join at a
+/// server, a request, a query or a copy of the store at the master.
+pub const NOT_HERE: u32 = 47;
+
 /// Where a server stands.
 #[derive(Clone, Copy, Debug, PartialEq, Eq)]
 pub struct Standing {

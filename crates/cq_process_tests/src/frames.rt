@@ -3,7 +3,7 @@ use crate::links::{Member, create, node, party};
 use cq_base::{Moment, Party};
 use cq_frames::{Response, frame_of, read_response};
 use cq_process::{PutFault, Written, arrive, standing};
-use cq_server_process::{Unput, put_piece, tell_done, tell_waiting};
+use cq_process_frames::{Unput, put_piece, tell_done, tell_waiting};
 use std::alloc::Global;
 use std::process::Abort;
 use std::test::Fail;
