@@ -1,0 +1,38 @@
+-- What of a text is written, in parts.
+use Rattle.std.proofs.Common.{◌≡◌, ℕ, List, [], ◌∷◌, ◌++◌, Option, Result, Ok, Err, IfErr, refl, sym, ap, ◌∙◌, append_assoc, append-nil}
+use Rattle.std.specs.Io.KnownBytes.{Appends}
+use Rattle.cq_base.specs.Relations.{IsPrefix}
+use Rattle.cq_frame_loop.specs.Chains.{Relation, Step, IsChain, frames_in, text_in}
+use Rattle.cq_frame_loop.specs.within.Advances.{FailsAt}
+use Rattle.cq_frame_loop.specs.within.Writes.{Passes, Takes}
+use Rattle.cq_frame_loop.specs.declared.fault.LoopFault.{LoopFault}
+use Rattle.cq_frame_loop.specs.declared.fault.LoopFault.TheVariants.{NoMemory, ReadFailed, WriteFailed, Unanswered, TooManyBytes}
+
+-- a text was written, and then another one
+pub both_passed : (result : Result (Unit {0}) LoopFault) (out end first second rest : List ℕ) → out ≡ first ++ [] → rest ≡ [] → Passes result end second [] → Passes result (out ++ end) (first ++ second) rest
+both_passed (Ok _) out end first second rest all none more =
+    ap (λ xs. xs ++ end) (all ∙ append-nil first) ∙ ap (λ xs. first ++ xs) more ∙ sym (append_assoc first second []) ∙ ap (λ xs. (first ++ second) ++ xs) (sym none)
+both_passed (Err NoMemory) out end first second rest all none more = absurd more
+both_passed (Err ReadFailed) out end first second rest all none more = absurd more
+both_passed (Err WriteFailed) out end first second rest all none more =
+    (more.0, ap (λ xs. xs ++ end) (all ∙ append-nil first) ∙ ap (λ xs. first ++ xs) more.1 ∙ sym (append_assoc first second more.0))
+both_passed (Err Unanswered) out end first second rest all none more = absurd more
+both_passed (Err TooManyBytes) out end first second rest all none more = absurd more
+
+-- a frame was answered, and then the writing failed
+pub take_fails : {S : Type 0} (answers : Relation S) (result : Result (Unit {0}) LoopFault) (s t : S) (frame : Option (List ℕ)) (text told all rest : List ℕ) (old new : Option (List ℕ))
+    → answers s frame text t → all ≡ told ++ text → Takes result all rest old new → IfErr result (λ fault. (output : List ℕ) × Appends old new output × FailsAt answers fault s frame told output)
+take_fails answers (Ok _) s t frame text told all rest old new answered is took = tt
+take_fails answers (Err NoMemory) s t frame text told all rest old new answered is took = absurd took.2
+take_fails answers (Err ReadFailed) s t frame text told all rest old new answered is took = absurd took.2
+take_fails answers (Err WriteFailed) s t frame text told all rest old new answered is took = (
+  took.0,
+  took.1,
+  (record { frame = frame; text = text; after = t } ∷ [], t, (answered, refl), ([], refl), (took.2.0, ap (λ xs. told ++ xs) (append-nil text) ∙ sym is ∙ took.2.1)),
+)
+take_fails answers (Err Unanswered) s t frame text told all rest old new answered is took = absurd took.2
+take_fails answers (Err TooManyBytes) s t frame text told all rest old new answered is took = absurd took.2
+
+-- what was told before, and then the text of a frame, of which some was written
+pub told_on : (output out text more rest : List ℕ) → out ++ text ≡ more ++ rest → (output ++ more) ++ rest ≡ (output ++ out) ++ text
+told_on output out text more rest is = append_assoc output more rest ∙ ap (λ xs. output ++ xs) (sym is) ∙ sym (append_assoc output out text)

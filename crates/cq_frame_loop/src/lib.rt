@@ -1,0 +1,14 @@
+//! The loop of a process over frames: it reads them, has each answered, and writes the answers. `specs/` holds the rules.
+#![tactic(auto)]
+
+mod answering;
+mod buffer;
+mod fault;
+mod frame_loop;
+mod front;
+mod handler;
+mod writing;
+
+pub use fault::LoopFault;
+pub use frame_loop::{BUFFER_SIZE, BYTES_LIMIT, answer_frames};
+pub use handler::{ANSWER_ROOM, FrameHandler, Unanswered};
