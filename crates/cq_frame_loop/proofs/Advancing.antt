@@ -1,13 +1,13 @@
 -- Answering goes on from frame to frame, and from one read to the next, or comes to a fault.
-use Rattle.std.proofs.Common.{◌≡◌, ℕ, ◌-◌, List, [], ◌∷◌, ◌++◌, length, drop, Option, Ok, Err, refl, sym, ap, ◌∙◌, append_assoc, append-nil}
+use Rattle.std.proofs.Common.{◌≡◌, ℕ, ◌-◌, List, [], ◌∷◌, ◌++◌, length, drop, Option, Err, refl, sym, ap, ◌∙◌, append_assoc, append-nil}
 use Rattle.cq_frame_loop.specs.Cutting.{frames_behind}
-use Rattle.cq_frame_loop.specs.Chains.{Relation, Step, IsChain, frames_in, text_in}
+use Rattle.cq_frame_loop.specs.Chains.{Relation, frames_in, text_in}
 use Rattle.cq_frame_loop.specs.within.Advances.{Advances, BeginsWith, FailsAt, FailsIn}
 use Rattle.cq_frame_loop.specs.within.Writes.{Passes}
 use Rattle.cq_frame_loop.specs.declared.fault.LoopFault.{LoopFault}
 use Rattle.cq_frame_loop.specs.declared.fault.LoopFault.TheVariants.{NoMemory, ReadFailed, WriteFailed, Unanswered, TooManyBytes}
 use Rattle.cq_frame_loop.proofs.Cuts.{passed}
-use Rattle.cq_frame_loop.proofs.Chaining.{chain-append, frames_in-append, text_in-append, frames-behind, text-behind}
+use Rattle.cq_frame_loop.proofs.Chaining.{chain-append, text_in-append, frames-behind, text-behind}
 
 module _ {S : Type 0} (answers : Relation S) where
   pub at_start : (s : S) → Advances answers s 0 [] [] s 0 []

@@ -1,12 +1,12 @@
 -- How the loop ends.
-use Rattle.std.proofs.Common.{◌≡◌, ℕ, List, [], ◌++◌, Option, Result, Ok, Err, sym, ap, ◌∙◌, subst, take, append-nil}
+use Rattle.std.proofs.Common.{◌≡◌, ℕ, Bool, true, List, [], ◌++◌, Option, Result, Ok, Err, OnOk, sym, ap, ◌∙◌, subst, take, append-nil}
 use Rattle.std.specs.Io.KnownBytes.{Consumes, IsAtEnd}
 use Rattle.std.proofs.KnownBytes.{Consumes-trans}
 use Rattle.cq_frame_loop.specs.Cutting.{frames_behind, frames_of}
-use Rattle.cq_frame_loop.specs.Chains.{Relation, AnswersAll, AnswersFront, frames_in}
-use Rattle.cq_frame_loop.specs.Loops.{AnswersInput}
+use Rattle.cq_frame_loop.specs.Chains.{Relation, AnswersAll, frames_in}
+use Rattle.cq_frame_loop.specs.Loops.{AnswersInput, IsPassedOn}
 use Rattle.cq_frame_loop.specs.within.Advances.{Advances, FailsIn}
-use Rattle.cq_frame_loop.specs.within.Writes.{EndsLoop}
+use Rattle.cq_frame_loop.specs.within.Writes.{Ends, OnUnanswered}
 use Rattle.cq_frame_loop.specs.declared.fault.LoopFault.{LoopFault}
 use Rattle.cq_frame_loop.specs.declared.fault.LoopFault.TheVariants.{NoMemory, ReadFailed, WriteFailed, Unanswered, TooManyBytes}
 use Rattle.cq_frame_loop.proofs.Advancing.{cut_now}
@@ -28,11 +28,11 @@ module _ {S : Type 0} (answers : Relation S) where
   }
 
   -- at the end of the input
-  pub ends : (result : Result (Unit {0}) LoopFault) (s t : S) (later : ℕ) (input output rest : List ℕ) (left : Option (List ℕ)) → EndsLoop result → IsAtEnd left
+  pub ends : (result : Result (Unit {0}) LoopFault) (s t : S) (later : ℕ) (input output rest : List ℕ) (left : Option (List ℕ)) → Ends result → IsAtEnd left
       → Advances answers s 0 input output t later rest → frames_behind later rest ≡ [] → AnswersInput answers result s t input left output
   ends (Ok _) s t later input output rest left ended end before none = (end, all_answered s t later input output rest before none)
   ends (Err NoMemory) s t later input output rest left ended end before none = absurd ended
-  ends (Err ReadFailed) s t later input output rest left ended end before none = all_answered s t later input output rest before none
+  ends (Err ReadFailed) s t later input output rest left ended end before none = absurd ended
   ends (Err WriteFailed) s t later input output rest left ended end before none =
       let all = all_answered s t later input output rest before none in
       record { steps = all.steps; last = t; chain = all.chain; front = ([], all.all ∙ sym (append-nil (frames_in all.steps))); prefix = ([], sym all.whole ∙ sym (append-nil output)) }
@@ -46,3 +46,21 @@ module _ {S : Type 0} (answers : Relation S) where
   fails WriteFailed s t input output left failed = failed
   fails Unanswered s t input output left failed = failed
   fails TooManyBytes s t input output left failed = absurd failed
+
+  -- what was told before a frame that can't be answered was passed on
+  pub fails_passed : (fault : LoopFault) (s : S) (frames : List (Option (List ℕ))) (input output : List ℕ) (flushed : Bool) → FailsIn answers fault s frames output
+      → OnUnanswered fault (flushed ≡ true) → IsPassedOn (Err fault) input flushed
+  fails_passed NoMemory s frames input output flushed failed told = absurd failed
+  fails_passed ReadFailed s frames input output flushed failed told = absurd failed
+  fails_passed WriteFailed s frames input output flushed failed told = tt
+  fails_passed Unanswered s frames input output flushed failed told = told
+  fails_passed TooManyBytes s frames input output flushed failed told = absurd failed
+
+-- at the end of the input
+pub ends_passed : (result : Result (Unit {0}) LoopFault) (input : List ℕ) (flushed : Bool) → Ends result → OnOk result (flushed ≡ true) → IsPassedOn result input flushed
+ends_passed (Ok _) input flushed ended told = told
+ends_passed (Err NoMemory) input flushed ended told = absurd ended
+ends_passed (Err ReadFailed) input flushed ended told = absurd ended
+ends_passed (Err WriteFailed) input flushed ended told = tt
+ends_passed (Err Unanswered) input flushed ended told = absurd ended
+ends_passed (Err TooManyBytes) input flushed ended told = absurd ended

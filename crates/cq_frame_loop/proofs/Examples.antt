@@ -1,5 +1,5 @@
 -- Worked inputs, and what is told of their frames. The results were worked out by hand.
-use Rattle.std.proofs.Common.{◌≡◌, ℕ, ◌+◌, List, [], ◌∷◌, ◌++◌, map, Option, Some, None, refl}
+use Rattle.std.proofs.Common.{◌≡◌, ℕ, ◌+◌, List, [], ◌∷◌, ◌++◌, map, Some, None, refl}
 use Rattle.cq_frames.specs.Frames.{frame_at}
 use Rattle.cq_wire.specs.Reading.{number_at, bytes_at}
 use Rattle.cq_frame_loop.specs.Cutting.{frames_behind, frames_of, said_size}

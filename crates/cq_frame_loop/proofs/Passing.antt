@@ -1,10 +1,11 @@
 -- What of a text is written, in parts.
-use Rattle.std.proofs.Common.{◌≡◌, ℕ, List, [], ◌∷◌, ◌++◌, Option, Result, Ok, Err, IfErr, refl, sym, ap, ◌∙◌, append_assoc, append-nil}
+use Rattle.std.proofs.Common.{◌≡◌, ℕ, List, [], ◌∷◌, ◌++◌, length, take, Option, Result, Ok, Err, IfErr, refl, sym, ap, ◌∙◌, append_assoc, append-nil}
 use Rattle.std.specs.Io.KnownBytes.{Appends}
+use Rattle.std.proofs.lemmas.List.{take_at}
 use Rattle.cq_base.specs.Relations.{IsPrefix}
-use Rattle.cq_frame_loop.specs.Chains.{Relation, Step, IsChain, frames_in, text_in}
+use Rattle.cq_frame_loop.specs.Chains.{Relation}
 use Rattle.cq_frame_loop.specs.within.Advances.{FailsAt}
-use Rattle.cq_frame_loop.specs.within.Writes.{Passes, Takes}
+use Rattle.cq_frame_loop.specs.within.Writes.{BreaksOffAt, Passes, Takes}
 use Rattle.cq_frame_loop.specs.declared.fault.LoopFault.{LoopFault}
 use Rattle.cq_frame_loop.specs.declared.fault.LoopFault.TheVariants.{NoMemory, ReadFailed, WriteFailed, Unanswered, TooManyBytes}
 
@@ -36,3 +37,15 @@ take_fails answers (Err TooManyBytes) s t frame text told all rest old new answe
 -- what was told before, and then the text of a frame, of which some was written
 pub told_on : (output out text more rest : List ℕ) → out ++ text ≡ more ++ rest → (output ++ more) ++ rest ≡ (output ++ out) ++ text
 told_on output out text more rest is = append_assoc output more rest ∙ ap (λ xs. output ++ xs) (sym is) ∙ sym (append_assoc output out text)
+
+-- what was told before is the front of what is there
+pub cut_back : (told all : List ℕ) (len : ℕ) → len ≡ length told → IsPrefix told all → take len all ≡ told
+cut_back told all len is front = ap (take len) front.1 ∙ take_at told front.0 len (sym is)
+
+-- a frame can't be answered
+pub off_fails : {S : Type 0} (answers : Relation S) (fault : LoopFault) (s : S) (frame : Option (List ℕ)) (told left output : List ℕ) → left ≡ told → BreaksOffAt fault left output → FailsAt answers fault s frame told output
+off_fails answers NoMemory s frame told left output is off = absurd off
+off_fails answers ReadFailed s frame told left output is off = absurd off
+off_fails answers WriteFailed s frame told left output is off = ([], s, refl, (frame ∷ [], refl), (off.0, append-nil told ∙ sym is ∙ off.1))
+off_fails answers Unanswered s frame told left output is off = off ∙ is
+off_fails answers TooManyBytes s frame told left output is off = absurd off

@@ -1,8 +1,7 @@
 //! The loop of a process over the frames of its input.
-ghost use Rattle.std.specs.Prelude.{◌≡◌, ◌≤◌, ◌++◌, ℕ, List, [], length, true, false, vec_capacity, Err, OnOk};
-ghost use Rattle.std.specs.Io.KnownBytes.{Appends, Consumes, Keeps};
-ghost use Rattle.cq_frame_loop.specs.Loops.{AnswersInput};
-ghost use Rattle.cq_frame_loop.specs.within.Writes.{EndsLoop};
+ghost use Rattle.std.specs.Prelude.{◌≡◌, ◌≤◌, ℕ, List, [], length, false, vec_capacity, Err, OnOk};
+ghost use Rattle.std.specs.Io.KnownBytes.{Appends, Consumes};
+ghost use Rattle.cq_frame_loop.specs.Loops.{AnswersInput, IsPassedOn};
 
 use crate::answering::answer_buffer;
 use crate::buffer::read_behind;
@@ -18,20 +17,6 @@ pub const BUFFER_SIZE: usize = FRAME_LIMIT + 65_540;
 
 /// The most bytes that 64 bits can count.
 pub const BYTES_LIMIT: u64 = u64::MAX;
-
-/// The end of the input, if the reader has not failed.
-fn end_loop<R: Source, W: Sink>(reader: &R, writer: &mut W) -> Result<(), LoopFault>
-    ensures kept { Keeps (W.contents writer.old) (W.contents writer.new) }
-    ensures ends { EndsLoop result }
-    ensures reader_sound { OnOk result (R.has_failed reader.now ≡ false) }
-    ensures writer_sound { OnOk result (W.has_failed writer.new ≡ false) }
-    ensures flushed { OnOk result (W.has_flushed writer.new ≡ true) }
-{
-    if reader.failed() {
-        return Err(LoopFault::ReadFailed);
-    }
-    flush_all(writer)
-}
 
 /// Answers the frames that the reader gives, with buffers that are empty.
 fn answer_with<H: FrameHandler, R: Source, W: Sink>(
@@ -49,16 +34,21 @@ fn answer_with<H: FrameHandler, R: Source, W: Sink>(
     ensures answers { (input : List ℕ) × (output : List ℕ)
         × Consumes (R.remaining reader.old) (R.remaining reader.new) input
         × Appends (W.contents writer.old) (W.contents writer.new) output
-        × AnswersInput H.answers result handler.old handler.new input (R.remaining reader.new) output }
+        × AnswersInput H.answers result handler.old handler.new input (R.remaining reader.new) output
+        × IsPassedOn result input (W.has_flushed writer.new) }
     ensures reader_sound { OnOk result (R.has_failed reader.new ≡ false) }
     ensures writer_sound { OnOk result (W.has_failed writer.new ≡ false) }
-    ensures flushed { OnOk result (W.has_flushed writer.new ≡ true) }
 {
     let mut len = 0;
     let mut passed = 0;
     for _ in 0..BYTES_LIMIT {
         match read_behind(reader, buffer, len) {
-            Ok(0) => return end_loop(reader, writer),
+            Ok(0) => {
+                if reader.failed() {
+                    return Err(LoopFault::ReadFailed);
+                }
+                return flush_all(writer);
+            }
             Ok(count) => {
                 let left = answer_buffer(handler, buffer, len + count, passed, out, end, writer)?;
                 len = left.0;
@@ -84,10 +74,10 @@ pub fn answer_frames<H: FrameHandler, R: Source, W: Sink>(
     ensures answers { (input : List ℕ) × (output : List ℕ)
         × Consumes (R.remaining reader.old) (R.remaining reader.new) input
         × Appends (W.contents writer.old) (W.contents writer.new) output
-        × AnswersInput H.answers result handler.old handler.new input (R.remaining reader.new) output }
+        × AnswersInput H.answers result handler.old handler.new input (R.remaining reader.new) output
+        × IsPassedOn result input (W.has_flushed writer.new) }
     ensures reader_sound { OnOk result (R.has_failed reader.new ≡ false) }
     ensures writer_sound { OnOk result (W.has_failed writer.new ≡ false) }
-    ensures flushed { OnOk result (W.has_flushed writer.new ≡ true) }
 {
     let Ok(mut end) = Vec::with_capacity(alloc, ANSWER_ROOM) else {
         return Err(LoopFault::NoMemory);

@@ -100,14 +100,12 @@ pub(crate) fn take_end<W: Sink>(
     }
 }
 
-/// Writes all that was told of what came with one read, and flushes it. Where nothing was told, nothing is done.
+/// Writes all that was told of what came with one read, and flushes it, with what was written before.
 pub(crate) fn write_told<W: Sink>(out: &mut Vec<u8>, writer: &mut W) -> Result<(), LoopFault>
     ensures takes { Takes result out.old.items [] (W.contents writer.old) (W.contents writer.new) }
     ensures empty { OnOk result (out.new.items ≡ []) }
+    ensures flushed { OnOk result (W.has_flushed writer.new ≡ true) }
 {
-    if out.is_empty() {
-        return Ok(());
-    }
     match write_out(out, writer) {
         Ok(()) => flush_all(writer),
         Err(fault) => Err(fault),

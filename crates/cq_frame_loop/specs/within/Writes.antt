@@ -35,11 +35,10 @@ BreaksOffAt WriteFailed text output = IsPrefix output text
 BreaksOffAt Unanswered text output = output ≡ text
 BreaksOffAt TooManyBytes text output = ⊥
 
--- how a loop ends behind the last read
-abbrev pub EndsLoop : Result (Unit {0}) LoopFault → Type 0
-EndsLoop (Ok _) = Unit {0}
-EndsLoop (Err NoMemory) = ⊥
-EndsLoop (Err ReadFailed) = Unit {0}
-EndsLoop (Err WriteFailed) = Unit {0}
-EndsLoop (Err Unanswered) = ⊥
-EndsLoop (Err TooManyBytes) = ⊥
+-- a fact, where a frame can't be answered
+abbrev pub OnUnanswered : LoopFault → Type 0 → Type 0
+OnUnanswered NoMemory P = Unit {0}
+OnUnanswered ReadFailed P = Unit {0}
+OnUnanswered WriteFailed P = Unit {0}
+OnUnanswered Unanswered P = P
+OnUnanswered TooManyBytes P = Unit {0}

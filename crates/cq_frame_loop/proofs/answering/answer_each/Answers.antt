@@ -1,5 +1,5 @@
 -- The frames of the bytes one by one, and then the bytes behind them.
-use Rattle.std.proofs.Common.{◌≡◌, ◌-◌, ◌≤◌, [], ◌++◌, ℕ, List, length, take, drop, sym, ap, ◌∙◌, subst, option_map, Bor, arith}
+use Rattle.std.proofs.Common.{◌≡◌, ◌-◌, [], ◌++◌, ℕ, List, length, take, drop, sym, ap, ◌∙◌, subst, option_map, Bor, arith}
 use Rattle.std.proofs.lemmas.Result.{err_from_is_err_and}
 use Rattle.std.proofs.lemmas.List.Prefix.{end_rest}
 use Rattle.std.proofs.KnownBytes.{Appends-nil, Appends-trans}

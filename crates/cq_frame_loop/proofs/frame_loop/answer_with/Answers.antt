@@ -1,17 +1,17 @@
 -- By what was read before, and how the last read went.
-use Rattle.std.proofs.Common.{◌≡◌, ◌<◌, ◌+◌, [], ◌++◌, take, drop, subst, length, length-append, length-take, length-drop, arith}
+use Rattle.std.proofs.Common.{◌<◌, ◌+◌, [], ◌++◌, take, drop, subst, inl, inr, refl, length, length-append, length-take, length-drop, arith}
 use Rattle.std.proofs.lemmas.Result.{err_from_is_err_and}
 use Rattle.std.proofs.KnownBytes.{Consumes-nil, Consumes-trans, Consumes-kept, Appends-nil, Appends-trans, Appends-kept}
 use Rattle.cq_frame_loop.specs.Cutting.{frames_behind}
 use Rattle.cq_frame_loop.specs.within.Advances.{Advances, FailsIn}
 use Rattle.cq_frame_loop.proofs.Cuts.{grown, unfinished_nothing}
 use Rattle.cq_frame_loop.proofs.Advancing.{at_start, with_more, goes_on, fails_behind}
-use Rattle.cq_frame_loop.proofs.Endings.{Consumes-nothing, all_answered, ends, fails}
+use Rattle.cq_frame_loop.proofs.Endings.{Consumes-nothing, all_answered, ends, ends_passed, fails, fails_passed}
 use Rattle.cq_frame_loop.proofs.frame_loop.answer_with.Goals as goal
 
 pub loop-init : goal.loop-init
 loop-init g c =
-    ([], [], Consumes-nil _, Appends-nil _, at_start g.H.FrameHandler.answers c.args.handler.now, unfinished_nothing 0, omega arith, c.requires.nothing, c.requires.empty, c.requires.room, omega arith)
+    ([], [], Consumes-nil _, Appends-nil _, at_start g.H.FrameHandler.answers c.args.handler.now, unfinished_nothing 0, omega arith, c.requires.nothing, c.requires.empty, c.requires.room, omega arith, inl refl)
 
 pub loop-preserved : goal.loop-preserved
 loop-preserved g c =
@@ -34,6 +34,7 @@ loop-preserved g c =
       c.in_ok-left-in-Ok.ensures.empty,
       c.in_ok-left-in-Ok.ensures.room,
       omega (arith, read.10, c.in-Ok.count-test, c.in-Ok.ensures.bound, length-append read.0 chunk, length-take c.in-Ok.count (drop c.loop.len c.read_behind.new.buffer)),
+      inr c.in_ok-left-in-Ok.ensures.passed_on,
     )
 
 pub returns-in_err-left-in-Ok-clause-answers : goal.returns-in_err-left-in-Ok-clause-answers
@@ -54,6 +55,19 @@ returns-in_err-left-in-Ok-clause-answers g c =
       fails g.H.FrameHandler.answers one c.args.handler.now c.answer_buffer.new.handler (read.0 ++ chunk) (read.1 ++ failed.0) _
           (fails_behind g.H.FrameHandler.answers one c.args.handler.now c.loop.handler 0 c.loop.passed (read.0 ++ chunk) read.1 (unread ++ chunk) failed.0
           (with_more g.H.FrameHandler.answers c.args.handler.now c.loop.handler 0 c.loop.passed read.0 read.1 unread chunk read.4) behind),
+      fails_passed g.H.FrameHandler.answers one c.loop.handler (frames_behind c.loop.passed (take (c.loop.len + c.in-Ok.count) c.read_behind.new.buffer)) (read.0 ++ chunk) failed.0 _ failed.2 c.in_err-left-in-Ok.ensures.flushed,
+    )
+
+pub returns-then-failed-clause-answers : goal.returns-then-failed-clause-answers
+returns-then-failed-clause-answers g c =
+    let read = c.loop.invariant in
+    let input = Consumes-nothing _ _ _ read.0 (drop c.loop.len c.read_behind.new.buffer) _ c.in-Ok-eq0.field-0-test read.2 c.in-Ok-eq0.ensures.bytes.0 in (
+      read.0,
+      read.1,
+      input,
+      read.3,
+      all_answered g.H.FrameHandler.answers c.args.handler.now c.loop.handler c.loop.passed read.0 read.1 (take c.loop.len c.loop.buffer) read.4 read.5,
+      read.11,
     )
 
 pub returns-in-Ok-eq0-clause-answers : goal.returns-in-Ok-eq0-clause-answers
@@ -66,8 +80,9 @@ returns-in-Ok-eq0-clause-answers g c =
       read.0,
       read.1,
       input,
-      Appends-kept _ _ _ read.1 read.3 c.end_loop.ensures.kept,
-      ends g.H.FrameHandler.answers c.end_loop.result c.args.handler.now c.loop.handler c.loop.passed read.0 read.1 (take c.loop.len c.loop.buffer) _ c.end_loop.ensures.ends end read.4 read.5,
+      Appends-kept _ _ _ read.1 read.3 c.flush_all.ensures.kept,
+      ends g.H.FrameHandler.answers c.flush_all.result c.args.handler.now c.loop.handler c.loop.passed read.0 read.1 (take c.loop.len c.loop.buffer) _ c.flush_all.ensures.ends end read.4 read.5,
+      ends_passed c.flush_all.result read.0 _ c.flush_all.ensures.ends c.flush_all.ensures.flushed,
     )
 
 pub returns-in-Err-clause-answers : goal.returns-in-Err-clause-answers
@@ -78,10 +93,11 @@ returns-in-Err-clause-answers g c =
       Consumes-kept _ _ _ read.0 read.2 c.in-Err.ensures.bytes,
       read.3,
       all_answered g.H.FrameHandler.answers c.args.handler.now c.loop.handler c.loop.passed read.0 read.1 (take c.loop.len c.loop.buffer) read.4 read.5,
+      read.11,
     )
 
 pub returns-clause-answers : goal.returns-clause-answers
 returns-clause-answers g c =
     let read = c.loop.invariant in
     let all = all_answered g.H.FrameHandler.answers c.args.handler.now c.loop.handler c.loop.passed read.0 read.1 (take c.loop.len c.loop.buffer) read.4 read.5 in
-    (read.0, read.1, read.2, read.3, (omega (arith, read.10, c.loop-test.false), all))
+    (read.0, read.1, read.2, read.3, (omega (arith, read.10, c.loop-test.false), all), read.11)

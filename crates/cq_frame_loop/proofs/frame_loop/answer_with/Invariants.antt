@@ -1,5 +1,5 @@
 -- Each frame of the input so far was answered, what was told is written, and an unfinished frame is left. Each read took a byte at least.
-use Rattle.std.proofs.Common.{◌≡◌, ◌≤◌, ◌<◌, ◌+◌, [], List, ℕ, length, take, vec_capacity}
+use Rattle.std.proofs.Common.{◌≡◌, ◌≤◌, ◌<◌, ◌+◌, ◌⊎◌, true, [], List, ℕ, length, take, vec_capacity}
 use Rattle.std.specs.Io.KnownBytes.{Consumes, Appends}
 use Rattle.cq_frames.specs.declared.frame.TheConstants.{FRAME_LIMIT}
 use Rattle.cq_frame_loop.specs.Cutting.{frames_behind}
@@ -13,4 +13,4 @@ invariant-loop g l =
     × Appends (g.W.Write.contents l.initial.writer) (g.W.Write.contents l.writer) output
     × Advances g.H.FrameHandler.answers l.initial.handler 0 input output l.handler l.passed (take l.len l.buffer)
     × (frames_behind l.passed (take l.len l.buffer) ≡ []) × (l.len < FRAME_LIMIT + 4) × (l.out.items ≡ []) × (l.end.items ≡ []) × (ANSWER_ROOM ≤ vec_capacity l.end)
-    × (l.counter ≤ length input)
+    × (l.counter ≤ length input) × ((input ≡ []) ⊎ (g.W.Sink.has_flushed l.writer ≡ true))

@@ -1,6 +1,5 @@
 -- By how many bytes are there, and what they say.
-use Rattle.std.proofs.Common.{◌≡◌, ◌≤◌, ◌<◌, ◌+◌, ◌^◌, length, take, drop, arith}
-use Rattle.cq_frames.specs.declared.frame.TheConstants.{FRAME_LIMIT}
+use Rattle.std.proofs.Common.{◌≡◌, take, drop, arith}
 use Rattle.cq_frame_loop.specs.Cutting.{said_size}
 use Rattle.cq_frame_loop.proofs.Cuts.{begins_overlong, begins_whole, unfinished_short, unfinished_cut}
 use Rattle.cq_frame_loop.proofs.front.front_of.Goals as goal
