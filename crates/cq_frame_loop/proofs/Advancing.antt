@@ -1,11 +1,11 @@
 -- Answering goes on from frame to frame, and from one read to the next, or comes to a fault.
 use Rattle.std.proofs.Common.{◌≡◌, ℕ, ◌-◌, List, [], ◌∷◌, ◌++◌, length, drop, Option, Err, refl, sym, ap, ◌∙◌, append_assoc, append-nil}
 use Rattle.cq_frame_loop.specs.Cutting.{frames_behind}
-use Rattle.cq_frame_loop.specs.Chains.{Relation, frames_in, text_in}
-use Rattle.cq_frame_loop.specs.within.Advances.{Advances, BeginsWith, FailsAt, FailsIn}
-use Rattle.cq_frame_loop.specs.within.Writes.{Passes}
+use Rattle.cq_frame_loop.specs.Chains.{Relation, AnswersFront, frames_in, text_in}
+use Rattle.cq_frame_loop.specs.within.Advances.{Advances, BeginsWith, FailsAt, FailsIn, StopsAt}
+use Rattle.cq_frame_loop.specs.within.Writes.{IsWriteFault, Passes}
 use Rattle.cq_frame_loop.specs.declared.fault.LoopFault.{LoopFault}
-use Rattle.cq_frame_loop.specs.declared.fault.LoopFault.TheVariants.{NoMemory, ReadFailed, WriteFailed, Unanswered, TooManyBytes}
+use Rattle.cq_frame_loop.specs.declared.fault.LoopFault.TheVariants.{NoMemory, ReadFailed, WriteFailed, Unanswered, Interrupted, TooManyBytes}
 use Rattle.cq_frame_loop.proofs.Cuts.{passed}
 use Rattle.cq_frame_loop.proofs.Chaining.{chain-append, text_in-append, frames-behind, text-behind}
 
@@ -65,12 +65,10 @@ module _ {S : Type 0} (answers : Relation S) where
 
   -- ---- faults
 
-  -- at a frame
-  pub fails_at_frame : (fault : LoopFault) (s m : S) (count size : ℕ) (bytes output unsaid rest more : List ℕ) (frame : Option (List ℕ)) → Advances answers s count bytes (output ++ unsaid) m 0 rest
-      → BeginsWith rest frame size → FailsAt answers fault m frame unsaid more → FailsIn answers fault s (frames_behind count bytes) (output ++ more)
-  fails_at_frame NoMemory s m count size bytes output unsaid rest more frame before begins fails = absurd fails
-  fails_at_frame ReadFailed s m count size bytes output unsaid rest more frame before begins fails = absurd fails
-  fails_at_frame WriteFailed s m count size bytes output unsaid rest more frame before begins fails =
+  -- a write fails at a frame
+  stops_at_frame : (s m : S) (count size : ℕ) (bytes output unsaid rest more : List ℕ) (frame : Option (List ℕ)) → Advances answers s count bytes (output ++ unsaid) m 0 rest
+      → BeginsWith rest frame size → StopsAt answers m frame unsaid more → AnswersFront answers s (frames_behind count bytes) (output ++ more)
+  stops_at_frame s m count size bytes output unsaid rest more frame before begins fails =
       let left : List (Option (List ℕ)) = fails.3.0 in
       let parts : frames_behind 0 rest ≡ frames_in fails.0 ++ (left ++ frames_behind size rest) =
       begins_now rest frame size begins ∙ ap (λ (fs : List (Option (List ℕ))). fs ++ frames_behind size rest) fails.3.1 ∙ append_assoc (frames_in fails.0) left (frames_behind size rest) in
@@ -81,6 +79,13 @@ module _ {S : Type 0} (answers : Relation S) where
         front = (left ++ frames_behind size rest, frames-behind before.steps fails.0 _ _ _ (cut_now s m count 0 bytes _ rest before) parts);
         prefix = (fails.4.0, text-behind before.steps fails.0 (output ++ unsaid) output unsaid more fails.4.0 before.whole refl fails.4.1);
       }
+
+  -- a frame comes to a fault
+  pub fails_at_frame : (fault : LoopFault) (s m : S) (count size : ℕ) (bytes output unsaid rest more : List ℕ) (frame : Option (List ℕ)) → Advances answers s count bytes (output ++ unsaid) m 0 rest
+      → BeginsWith rest frame size → FailsAt answers fault m frame unsaid more → FailsIn answers fault s (frames_behind count bytes) (output ++ more)
+  fails_at_frame NoMemory s m count size bytes output unsaid rest more frame before begins fails = absurd fails
+  fails_at_frame ReadFailed s m count size bytes output unsaid rest more frame before begins fails = absurd fails
+  fails_at_frame WriteFailed s m count size bytes output unsaid rest more frame before begins fails = stops_at_frame s m count size bytes output unsaid rest more frame before begins fails
   fails_at_frame Unanswered s m count size bytes output unsaid rest more frame before begins fails = record {
     steps = before.steps;
     last = m;
@@ -90,35 +95,44 @@ module _ {S : Type 0} (answers : Relation S) where
     front = cut_now s m count 0 bytes _ rest before ∙ ap (λ fs. frames_in before.steps ++ fs) (begins_now rest frame size begins);
     whole = ap (λ xs. output ++ xs) fails ∙ before.whole;
   }
+  fails_at_frame Interrupted s m count size bytes output unsaid rest more frame before begins fails = stops_at_frame s m count size bytes output unsaid rest more frame before begins fails
   fails_at_frame TooManyBytes s m count size bytes output unsaid rest more frame before begins fails = absurd fails
+
+  front_by : (fault : LoopFault) (s : S) (frames : List (Option (List ℕ))) (output : List ℕ) → IsWriteFault fault → AnswersFront answers s frames output → FailsIn answers fault s frames output
+  front_by NoMemory s frames output kind front = absurd kind
+  front_by ReadFailed s frames output kind front = absurd kind
+  front_by WriteFailed s frames output kind front = front
+  front_by Unanswered s frames output kind front = absurd kind
+  front_by Interrupted s frames output kind front = front
+  front_by TooManyBytes s frames output kind front = absurd kind
 
   -- at the writing of what was told
   pub fails_at_writing : (fault : LoopFault) (s m : S) (count later : ℕ) (bytes output unsaid rest more left : List ℕ) → Advances answers s count bytes (output ++ unsaid) m later rest
       → Passes (Err fault) unsaid more left → FailsIn answers fault s (frames_behind count bytes) (output ++ more)
-  fails_at_writing NoMemory s m count later bytes output unsaid rest more left before fails = absurd fails
-  fails_at_writing ReadFailed s m count later bytes output unsaid rest more left before fails = absurd fails
-  fails_at_writing WriteFailed s m count later bytes output unsaid rest more left before fails = record {
+  fails_at_writing fault s m count later bytes output unsaid rest more left before fails = front_by fault s (frames_behind count bytes) (output ++ more) fails.0 (record {
     steps = before.steps;
     last = m;
     chain = before.chain;
     front = (frames_behind later rest, cut_now s m count later bytes _ rest before);
-    prefix = (fails.0, sym before.whole ∙ ap (λ xs. output ++ xs) fails.1 ∙ sym (append_assoc output more fails.0));
-  }
-  fails_at_writing Unanswered s m count later bytes output unsaid rest more left before fails = absurd fails
-  fails_at_writing TooManyBytes s m count later bytes output unsaid rest more left before fails = absurd fails
+    prefix = (fails.1.0, sym before.whole ∙ ap (λ xs. output ++ xs) fails.1.1 ∙ sym (append_assoc output more fails.1.0));
+  })
 
-  -- in the rest
-  pub fails_behind : (fault : LoopFault) (s m : S) (count later : ℕ) (bytes output rest more : List ℕ) → Advances answers s count bytes output m later rest
-      → FailsIn answers fault m (frames_behind later rest) more → FailsIn answers fault s (frames_behind count bytes) (output ++ more)
-  fails_behind NoMemory s m count later bytes output rest more before fails = absurd fails
-  fails_behind ReadFailed s m count later bytes output rest more before fails = absurd fails
-  fails_behind WriteFailed s m count later bytes output rest more before fails = record {
+  front_behind : (s m : S) (count later : ℕ) (bytes output rest more : List ℕ) → Advances answers s count bytes output m later rest
+      → AnswersFront answers m (frames_behind later rest) more → AnswersFront answers s (frames_behind count bytes) (output ++ more)
+  front_behind s m count later bytes output rest more before fails = record {
     steps = before.steps ++ fails.steps;
     last = fails.last;
     chain = chain-append answers s m fails.last before.steps fails.steps before.chain fails.chain;
     front = (fails.front.0, frames-behind before.steps fails.steps _ _ _ (cut_now s m count later bytes output rest before) fails.front.1);
     prefix = (fails.prefix.0, text-behind before.steps fails.steps output output [] more fails.prefix.0 before.whole (sym (append-nil output)) fails.prefix.1);
   }
+
+  -- in the rest
+  pub fails_behind : (fault : LoopFault) (s m : S) (count later : ℕ) (bytes output rest more : List ℕ) → Advances answers s count bytes output m later rest
+      → FailsIn answers fault m (frames_behind later rest) more → FailsIn answers fault s (frames_behind count bytes) (output ++ more)
+  fails_behind NoMemory s m count later bytes output rest more before fails = absurd fails
+  fails_behind ReadFailed s m count later bytes output rest more before fails = absurd fails
+  fails_behind WriteFailed s m count later bytes output rest more before fails = front_behind s m count later bytes output rest more before fails
   fails_behind Unanswered s m count later bytes output rest more before fails = record {
     steps = before.steps ++ fails.steps;
     last = fails.last;
@@ -128,4 +142,5 @@ module _ {S : Type 0} (answers : Relation S) where
     front = frames-behind before.steps fails.steps _ _ _ (cut_now s m count later bytes output rest before) fails.front;
     whole = ap (λ xs. xs ++ more) before.whole ∙ ap (λ xs. text_in before.steps ++ xs) fails.whole ∙ sym (text_in-append before.steps fails.steps);
   }
+  fails_behind Interrupted s m count later bytes output rest more before fails = front_behind s m count later bytes output rest more before fails
   fails_behind TooManyBytes s m count later bytes output rest more before fails = absurd fails

@@ -1,14 +1,14 @@
 -- How the loop ends.
-use Rattle.std.proofs.Common.{◌≡◌, ℕ, Bool, true, List, [], ◌++◌, Option, Result, Ok, Err, OnOk, sym, ap, ◌∙◌, subst, take, append-nil}
+use Rattle.std.proofs.Common.{◌≡◌, ℕ, ◌⊎◌, Bool, true, false, List, [], ◌++◌, Option, Result, Ok, Err, IfErr, OnOk, sym, ap, ◌∙◌, subst, take, append-nil}
 use Rattle.std.specs.Io.KnownBytes.{Consumes, IsAtEnd}
 use Rattle.std.proofs.KnownBytes.{Consumes-trans}
 use Rattle.cq_frame_loop.specs.Cutting.{frames_behind, frames_of}
-use Rattle.cq_frame_loop.specs.Chains.{Relation, AnswersAll, frames_in}
-use Rattle.cq_frame_loop.specs.Loops.{AnswersInput, IsPassedOn}
+use Rattle.cq_frame_loop.specs.Chains.{Relation, AnswersAll, AnswersFront, frames_in}
+use Rattle.cq_frame_loop.specs.Loops.{AnswersInput, LeavesReader, LeavesWriter}
 use Rattle.cq_frame_loop.specs.within.Advances.{Advances, FailsIn}
-use Rattle.cq_frame_loop.specs.within.Writes.{Ends, OnUnanswered}
+use Rattle.cq_frame_loop.specs.within.Writes.{IsReadFault, IsWriting, LeavesAt}
 use Rattle.cq_frame_loop.specs.declared.fault.LoopFault.{LoopFault}
-use Rattle.cq_frame_loop.specs.declared.fault.LoopFault.TheVariants.{NoMemory, ReadFailed, WriteFailed, Unanswered, TooManyBytes}
+use Rattle.cq_frame_loop.specs.declared.fault.LoopFault.TheVariants.{NoMemory, ReadFailed, WriteFailed, Unanswered, Interrupted, TooManyBytes}
 use Rattle.cq_frame_loop.proofs.Advancing.{cut_now}
 
 -- a read that gave nothing
@@ -27,17 +27,35 @@ module _ {S : Type 0} (answers : Relation S) where
     whole = before.whole;
   }
 
+  front_answered : (s t : S) (frames : List (Option (List ℕ))) (output : List ℕ) → AnswersAll answers s frames output t → AnswersFront answers s frames output
+  front_answered s t frames output all = record {
+    steps = all.steps;
+    last = t;
+    chain = all.chain;
+    front = ([], all.all ∙ sym (append-nil (frames_in all.steps)));
+    prefix = ([], sym all.whole ∙ sym (append-nil output));
+  }
+
   -- at the end of the input
-  pub ends : (result : Result (Unit {0}) LoopFault) (s t : S) (later : ℕ) (input output rest : List ℕ) (left : Option (List ℕ)) → Ends result → IsAtEnd left
-      → Advances answers s 0 input output t later rest → frames_behind later rest ≡ [] → AnswersInput answers result s t input left output
-  ends (Ok _) s t later input output rest left ended end before none = (end, all_answered s t later input output rest before none)
-  ends (Err NoMemory) s t later input output rest left ended end before none = absurd ended
-  ends (Err ReadFailed) s t later input output rest left ended end before none = absurd ended
-  ends (Err WriteFailed) s t later input output rest left ended end before none =
-      let all = all_answered s t later input output rest before none in
-      record { steps = all.steps; last = t; chain = all.chain; front = ([], all.all ∙ sym (append-nil (frames_in all.steps))); prefix = ([], sym all.whole ∙ sym (append-nil output)) }
-  ends (Err Unanswered) s t later input output rest left ended end before none = absurd ended
-  ends (Err TooManyBytes) s t later input output rest left ended end before none = absurd ended
+  pub ends : (result : Result (Unit {0}) LoopFault) (s t : S) (input output : List ℕ) (left : Option (List ℕ)) → IsWriting result → IsAtEnd left
+      → AnswersAll answers s (frames_of input) output t → AnswersInput answers result s t input left output
+  ends (Ok _) s t input output left kind end all = (end, all)
+  ends (Err NoMemory) s t input output left kind end all = absurd kind
+  ends (Err ReadFailed) s t input output left kind end all = absurd kind
+  ends (Err WriteFailed) s t input output left kind end all = front_answered s t (frames_of input) output all
+  ends (Err Unanswered) s t input output left kind end all = absurd kind
+  ends (Err Interrupted) s t input output left kind end all = front_answered s t (frames_of input) output all
+  ends (Err TooManyBytes) s t input output left kind end all = absurd kind
+
+  -- at a read that gave an error
+  pub read_fails : (fault : LoopFault) (s t : S) (input output : List ℕ) (left : Option (List ℕ)) (failed : Bool) → IsReadFault fault failed
+      → AnswersAll answers s (frames_of input) output t → AnswersInput answers (Err fault) s t input left output
+  read_fails NoMemory s t input output left failed kind all = absurd kind
+  read_fails ReadFailed s t input output left failed kind all = all
+  read_fails WriteFailed s t input output left failed kind all = absurd kind
+  read_fails Unanswered s t input output left failed kind all = absurd kind
+  read_fails Interrupted s t input output left failed kind all = front_answered s t (frames_of input) output all
+  read_fails TooManyBytes s t input output left failed kind all = absurd kind
 
   -- at a fault of a frame
   pub fails : (fault : LoopFault) (s t : S) (input output : List ℕ) (left : Option (List ℕ)) → FailsIn answers fault s (frames_of input) output → AnswersInput answers (Err fault) s t input left output
@@ -45,22 +63,60 @@ module _ {S : Type 0} (answers : Relation S) where
   fails ReadFailed s t input output left failed = absurd failed
   fails WriteFailed s t input output left failed = failed
   fails Unanswered s t input output left failed = failed
+  fails Interrupted s t input output left failed = failed
   fails TooManyBytes s t input output left failed = absurd failed
 
-  -- what was told before a frame that can't be answered was passed on
-  pub fails_passed : (fault : LoopFault) (s : S) (frames : List (Option (List ℕ))) (input output : List ℕ) (flushed : Bool) → FailsIn answers fault s frames output
-      → OnUnanswered fault (flushed ≡ true) → IsPassedOn (Err fault) input flushed
-  fails_passed NoMemory s frames input output flushed failed told = absurd failed
-  fails_passed ReadFailed s frames input output flushed failed told = absurd failed
-  fails_passed WriteFailed s frames input output flushed failed told = tt
-  fails_passed Unanswered s frames input output flushed failed told = told
-  fails_passed TooManyBytes s frames input output flushed failed told = absurd failed
+  -- how that leaves the writer and the reader
+  pub fails_leaves : (fault : LoopFault) (s : S) (frames : List (Option (List ℕ))) (input output : List ℕ) (failed flushed : Bool) → FailsIn answers fault s frames output
+      → LeavesAt fault failed flushed → LeavesWriter (Err fault) input failed flushed
+  fails_leaves NoMemory s frames input output failed flushed fails leaves = absurd fails
+  fails_leaves ReadFailed s frames input output failed flushed fails leaves = absurd fails
+  fails_leaves WriteFailed s frames input output failed flushed fails leaves = leaves
+  fails_leaves Unanswered s frames input output failed flushed fails leaves = leaves
+  fails_leaves Interrupted s frames input output failed flushed fails leaves = tt
+  fails_leaves TooManyBytes s frames input output failed flushed fails leaves = absurd fails
 
--- at the end of the input
-pub ends_passed : (result : Result (Unit {0}) LoopFault) (input : List ℕ) (flushed : Bool) → Ends result → OnOk result (flushed ≡ true) → IsPassedOn result input flushed
-ends_passed (Ok _) input flushed ended told = told
-ends_passed (Err NoMemory) input flushed ended told = absurd ended
-ends_passed (Err ReadFailed) input flushed ended told = absurd ended
-ends_passed (Err WriteFailed) input flushed ended told = tt
-ends_passed (Err Unanswered) input flushed ended told = absurd ended
-ends_passed (Err TooManyBytes) input flushed ended told = absurd ended
+  pub fails_unread : (fault : LoopFault) (s : S) (frames : List (Option (List ℕ))) (output : List ℕ) (failed : Bool) → FailsIn answers fault s frames output → LeavesReader (Err fault) failed
+  fails_unread NoMemory s frames output failed fails = absurd fails
+  fails_unread ReadFailed s frames output failed fails = absurd fails
+  fails_unread WriteFailed s frames output failed fails = tt
+  fails_unread Unanswered s frames output failed fails = tt
+  fails_unread Interrupted s frames output failed fails = tt
+  fails_unread TooManyBytes s frames output failed fails = absurd fails
+
+-- ---- how the end of the input, and a read that gave an error, leave the writer and the reader
+
+pub ends_leaves : (result : Result (Unit {0}) LoopFault) (input : List ℕ) (failed flushed : Bool) → IsWriting result → IfErr result (λ fault. LeavesAt fault failed flushed) → OnOk result (failed ≡ false)
+    → OnOk result (flushed ≡ true) → LeavesWriter result input failed flushed
+ends_leaves (Ok _) input failed flushed kind leaves sound told = (sound, told)
+ends_leaves (Err NoMemory) input failed flushed kind leaves sound told = absurd kind
+ends_leaves (Err ReadFailed) input failed flushed kind leaves sound told = absurd kind
+ends_leaves (Err WriteFailed) input failed flushed kind leaves sound told = leaves
+ends_leaves (Err Unanswered) input failed flushed kind leaves sound told = absurd kind
+ends_leaves (Err Interrupted) input failed flushed kind leaves sound told = tt
+ends_leaves (Err TooManyBytes) input failed flushed kind leaves sound told = absurd kind
+
+pub ends_unread : (result : Result (Unit {0}) LoopFault) (failed : Bool) → IsWriting result → failed ≡ false → LeavesReader result failed
+ends_unread (Ok _) failed kind sound = sound
+ends_unread (Err NoMemory) failed kind sound = absurd kind
+ends_unread (Err ReadFailed) failed kind sound = absurd kind
+ends_unread (Err WriteFailed) failed kind sound = tt
+ends_unread (Err Unanswered) failed kind sound = absurd kind
+ends_unread (Err Interrupted) failed kind sound = tt
+ends_unread (Err TooManyBytes) failed kind sound = absurd kind
+
+pub read_leaves : (fault : LoopFault) (input : List ℕ) (read failed flushed : Bool) → IsReadFault fault read → (input ≡ []) ⊎ (flushed ≡ true) → LeavesWriter (Err fault) input failed flushed
+read_leaves NoMemory input read failed flushed kind told = absurd kind
+read_leaves ReadFailed input read failed flushed kind told = told
+read_leaves WriteFailed input read failed flushed kind told = absurd kind
+read_leaves Unanswered input read failed flushed kind told = absurd kind
+read_leaves Interrupted input read failed flushed kind told = tt
+read_leaves TooManyBytes input read failed flushed kind told = absurd kind
+
+pub read_unread : (fault : LoopFault) (failed : Bool) → IsReadFault fault failed → LeavesReader (Err fault) failed
+read_unread NoMemory failed kind = absurd kind
+read_unread ReadFailed failed kind = kind
+read_unread WriteFailed failed kind = absurd kind
+read_unread Unanswered failed kind = absurd kind
+read_unread Interrupted failed kind = tt
+read_unread TooManyBytes failed kind = absurd kind

@@ -3,36 +3,40 @@ use Rattle.std.proofs.Common.{◌≡◌, ℕ, List, [], ◌∷◌, ◌++◌, len
 use Rattle.std.specs.Io.KnownBytes.{Appends}
 use Rattle.std.proofs.lemmas.List.{take_at}
 use Rattle.cq_base.specs.Relations.{IsPrefix}
-use Rattle.cq_frame_loop.specs.Chains.{Relation}
-use Rattle.cq_frame_loop.specs.within.Advances.{FailsAt}
-use Rattle.cq_frame_loop.specs.within.Writes.{BreaksOffAt, Passes, Takes}
+use Rattle.cq_frame_loop.specs.Chains.{Relation, Step}
+use Rattle.cq_frame_loop.specs.within.Advances.{FailsAt, StopsAt}
+use Rattle.cq_frame_loop.specs.within.Writes.{BreaksOffAt, IsWriteFault, Passes, Takes}
 use Rattle.cq_frame_loop.specs.declared.fault.LoopFault.{LoopFault}
-use Rattle.cq_frame_loop.specs.declared.fault.LoopFault.TheVariants.{NoMemory, ReadFailed, WriteFailed, Unanswered, TooManyBytes}
+use Rattle.cq_frame_loop.specs.declared.fault.LoopFault.TheVariants.{NoMemory, ReadFailed, WriteFailed, Unanswered, Interrupted, TooManyBytes}
+
+-- a prefix of a text is one of that text and another
+pub prefix_more : (out end output : List ℕ) → IsPrefix output out → IsPrefix output (out ++ end)
+prefix_more out end output part = (part.0 ++ end, ap (λ xs. xs ++ end) part.1 ∙ append_assoc output part.0 end)
 
 -- a text was written, and then another one
 pub both_passed : (result : Result (Unit {0}) LoopFault) (out end first second rest : List ℕ) → out ≡ first ++ [] → rest ≡ [] → Passes result end second [] → Passes result (out ++ end) (first ++ second) rest
 both_passed (Ok _) out end first second rest all none more =
     ap (λ xs. xs ++ end) (all ∙ append-nil first) ∙ ap (λ xs. first ++ xs) more ∙ sym (append_assoc first second []) ∙ ap (λ xs. (first ++ second) ++ xs) (sym none)
-both_passed (Err NoMemory) out end first second rest all none more = absurd more
-both_passed (Err ReadFailed) out end first second rest all none more = absurd more
-both_passed (Err WriteFailed) out end first second rest all none more =
-    (more.0, ap (λ xs. xs ++ end) (all ∙ append-nil first) ∙ ap (λ xs. first ++ xs) more.1 ∙ sym (append_assoc first second more.0))
-both_passed (Err Unanswered) out end first second rest all none more = absurd more
-both_passed (Err TooManyBytes) out end first second rest all none more = absurd more
+both_passed (Err fault) out end first second rest all none more =
+    (more.0, (more.1.0, ap (λ xs. xs ++ end) (all ∙ append-nil first) ∙ ap (λ xs. first ++ xs) more.1.1 ∙ sym (append_assoc first second more.1.0)))
+
+-- a write failed at a frame
+stops_by : {S : Type 0} (answers : Relation S) (fault : LoopFault) (s : S) (frame : Option (List ℕ)) (told output : List ℕ) → IsWriteFault fault → StopsAt answers s frame told output → FailsAt answers fault s frame told output
+stops_by answers NoMemory s frame told output kind stops = absurd kind
+stops_by answers ReadFailed s frame told output kind stops = absurd kind
+stops_by answers WriteFailed s frame told output kind stops = stops
+stops_by answers Unanswered s frame told output kind stops = absurd kind
+stops_by answers Interrupted s frame told output kind stops = stops
+stops_by answers TooManyBytes s frame told output kind stops = absurd kind
 
 -- a frame was answered, and then the writing failed
 pub take_fails : {S : Type 0} (answers : Relation S) (result : Result (Unit {0}) LoopFault) (s t : S) (frame : Option (List ℕ)) (text told all rest : List ℕ) (old new : Option (List ℕ))
     → answers s frame text t → all ≡ told ++ text → Takes result all rest old new → IfErr result (λ fault. (output : List ℕ) × Appends old new output × FailsAt answers fault s frame told output)
 take_fails answers (Ok _) s t frame text told all rest old new answered is took = tt
-take_fails answers (Err NoMemory) s t frame text told all rest old new answered is took = absurd took.2
-take_fails answers (Err ReadFailed) s t frame text told all rest old new answered is took = absurd took.2
-take_fails answers (Err WriteFailed) s t frame text told all rest old new answered is took = (
-  took.0,
-  took.1,
-  (record { frame = frame; text = text; after = t } ∷ [], t, (answered, refl), ([], refl), (took.2.0, ap (λ xs. told ++ xs) (append-nil text) ∙ sym is ∙ took.2.1)),
-)
-take_fails answers (Err Unanswered) s t frame text told all rest old new answered is took = absurd took.2
-take_fails answers (Err TooManyBytes) s t frame text told all rest old new answered is took = absurd took.2
+take_fails {S} answers (Err fault) s t frame text told all rest old new answered is took =
+    let one : List (Step S) = record { frame = frame; text = text; after = t } ∷ [] in
+    let stops : StopsAt answers s frame told took.0 = (one, t, (answered, refl), ([], refl), (took.2.1.0, ap (λ xs. told ++ xs) (append-nil text) ∙ sym is ∙ took.2.1.1)) in
+    (took.0, took.1, stops_by answers fault s frame told took.0 took.2.0 stops)
 
 -- what was told before, and then the text of a frame, of which some was written
 pub told_on : (output out text more rest : List ℕ) → out ++ text ≡ more ++ rest → (output ++ more) ++ rest ≡ (output ++ out) ++ text
@@ -48,4 +52,5 @@ off_fails answers NoMemory s frame told left output is off = absurd off
 off_fails answers ReadFailed s frame told left output is off = absurd off
 off_fails answers WriteFailed s frame told left output is off = ([], s, refl, (frame ∷ [], refl), (off.0, append-nil told ∙ sym is ∙ off.1))
 off_fails answers Unanswered s frame told left output is off = off ∙ is
+off_fails answers Interrupted s frame told left output is off = ([], s, refl, (frame ∷ [], refl), (off.0, append-nil told ∙ sym is ∙ off.1))
 off_fails answers TooManyBytes s frame told left output is off = absurd off

@@ -4,7 +4,7 @@ ghost use Rattle.std.specs.Io.KnownBytes.{Appends};
 ghost use Rattle.cq_frames.specs.declared.frame.TheConstants.{FRAME_LIMIT};
 ghost use Rattle.cq_frame_loop.specs.Cutting.{frames_behind};
 ghost use Rattle.cq_frame_loop.specs.within.Advances.{Advances, AdvancesTo, FailsAt, FailsIn};
-ghost use Rattle.cq_frame_loop.specs.within.Writes.{BreaksOffAt, OnUnanswered};
+ghost use Rattle.cq_frame_loop.specs.within.Writes.{BreaksOffAt, LeavesAt};
 
 use crate::buffer::keep_last;
 use crate::fault::LoopFault;
@@ -17,7 +17,7 @@ use cq_lines::Sink;
 fn break_off<W: Sink>(out: &mut Vec<u8>, len: usize, writer: &mut W) -> LoopFault
     ensures writes { (output : List ℕ) × Appends (W.contents writer.old) (W.contents writer.new) output
         × BreaksOffAt result (take len out.old.items) output }
-    ensures flushed { OnUnanswered result (W.has_flushed writer.new ≡ true) }
+    ensures leaves { LeavesAt result (W.has_failed writer.new) (W.has_flushed writer.new) }
 {
     out.truncate(len);
     match write_told(out, writer) {
@@ -40,7 +40,7 @@ fn answer_frame<H: FrameHandler, W: Sink>(
         × Appends (W.contents writer.old) (W.contents writer.new) output × (out.old.items ++ text ≡ output ++ out.new.items)) }
     ensures fails { IfErr result (λ fault. (output : List ℕ) × Appends (W.contents writer.old) (W.contents writer.new) output
         × FailsAt H.answers fault handler.old (option_map (λ bytes. bytes.now) frame.entry) out.old.items output) }
-    ensures flushed { IfErr result (λ fault. OnUnanswered fault (W.has_flushed writer.new ≡ true)) }
+    ensures leaves { IfErr result (λ fault. LeavesAt fault (W.has_failed writer.new) (W.has_flushed writer.new)) }
     ensures empty { OnOk result (end.new.items ≡ []) }
     ensures room { ANSWER_ROOM ≤ vec_capacity end.new }
 {
@@ -68,7 +68,7 @@ fn answer_each<H: FrameHandler, W: Sink>(
         × AdvancesTo H.answers handler.old count bytes.now (output ++ out.new.items) handler.new left.1 left.0) }
     ensures fails { IfErr result (λ fault. (output : List ℕ) × Appends (W.contents writer.old) (W.contents writer.new) output
         × FailsIn H.answers fault handler.old (frames_behind count bytes.now) output) }
-    ensures flushed { IfErr result (λ fault. OnUnanswered fault (W.has_flushed writer.new ≡ true)) }
+    ensures leaves { IfErr result (λ fault. LeavesAt fault (W.has_failed writer.new) (W.has_flushed writer.new)) }
     ensures empty { OnOk result (end.new.items ≡ []) }
     ensures room { ANSWER_ROOM ≤ vec_capacity end.new }
 {
@@ -98,8 +98,8 @@ fn answer_all<H: FrameHandler, W: Sink>(
         × AdvancesTo H.answers handler.old count bytes.now output handler.new left.1 left.0) }
     ensures fails { IfErr result (λ fault. (output : List ℕ) × Appends (W.contents writer.old) (W.contents writer.new) output
         × FailsIn H.answers fault handler.old (frames_behind count bytes.now) output) }
-    ensures passed_on { OnOk result (W.has_flushed writer.new ≡ true) }
-    ensures flushed { IfErr result (λ fault. OnUnanswered fault (W.has_flushed writer.new ≡ true)) }
+    ensures flushed { OnOk result (W.has_flushed writer.new ≡ true) }
+    ensures leaves { IfErr result (λ fault. LeavesAt fault (W.has_failed writer.new) (W.has_flushed writer.new)) }
     ensures nothing { OnOk result (out.new.items ≡ []) }
     ensures empty { OnOk result (end.new.items ≡ []) }
     ensures room { ANSWER_ROOM ≤ vec_capacity end.new }
@@ -134,8 +134,8 @@ pub(crate) fn answer_buffer<H: FrameHandler, W: Sink>(
     ensures short { IfOk result (λ left. left.0 < FRAME_LIMIT + 4) }
     ensures fails { IfErr result (λ fault. (output : List ℕ) × Appends (W.contents writer.old) (W.contents writer.new) output
         × FailsIn H.answers fault handler.old (frames_behind count (take len buffer.old)) output) }
-    ensures passed_on { OnOk result (W.has_flushed writer.new ≡ true) }
-    ensures flushed { IfErr result (λ fault. OnUnanswered fault (W.has_flushed writer.new ≡ true)) }
+    ensures flushed { OnOk result (W.has_flushed writer.new ≡ true) }
+    ensures leaves { IfErr result (λ fault. LeavesAt fault (W.has_failed writer.new) (W.has_flushed writer.new)) }
     ensures nothing { OnOk result (out.new.items ≡ []) }
     ensures empty { OnOk result (end.new.items ≡ []) }
     ensures room { ANSWER_ROOM ≤ vec_capacity end.new }

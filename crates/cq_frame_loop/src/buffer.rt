@@ -2,7 +2,9 @@
 ghost use Rattle.std.specs.Prelude.{◌≡◌, ◌-◌, ◌≤◌, drop, length, take};
 ghost use Rattle.std.specs.Io.{ReadsAtMost};
 ghost use Rattle.std.specs.Io.KnownBytes.{ReadConsumes};
+ghost use Rattle.cq_frame_loop.specs.within.Writes.{IsReadFault};
 
+use crate::fault::LoopFault;
 use cq_lines::Source;
 use std::io;
 
@@ -19,6 +21,17 @@ pub(crate) fn read_behind<R: Source>(
 {
     let (_, room) = buffer.split_at_mut(len);
     reader.read(room)
+}
+
+/// What to answer after a read gave an error.
+pub(crate) fn read_fault<R: Source>(reader: &R) -> LoopFault
+    ensures { IsReadFault result (R.has_failed reader.now) }
+{
+    if reader.failed() {
+        LoopFault::ReadFailed
+    } else {
+        LoopFault::Interrupted
+    }
 }
 
 /// Moves the last `left` ones of the first `len` bytes to the front, where these aren't all: O(left).

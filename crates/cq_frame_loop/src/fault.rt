@@ -15,6 +15,9 @@ pub enum LoopFault {
     /// The handler couldn't tell what became of a frame.
     #[error("a frame could not be answered")]
     Unanswered,
+    /// A read or a write gave an error, though the reader or the writer says that it has not failed. `Checked` never does.
+    #[error("a read or a write was interrupted")]
+    Interrupted,
     /// Reads can't be counted in 64 bits any more.
     #[error("the input has too many bytes")]
     TooManyBytes,

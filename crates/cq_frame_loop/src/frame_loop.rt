@@ -1,10 +1,10 @@
 //! The loop of a process over the frames of its input.
-ghost use Rattle.std.specs.Prelude.{◌≡◌, ◌≤◌, ℕ, List, [], length, false, vec_capacity, Err, OnOk};
+ghost use Rattle.std.specs.Prelude.{◌≡◌, ◌≤◌, ℕ, List, [], length, vec_capacity};
 ghost use Rattle.std.specs.Io.KnownBytes.{Appends, Consumes};
-ghost use Rattle.cq_frame_loop.specs.Loops.{AnswersInput, IsPassedOn};
+ghost use Rattle.cq_frame_loop.specs.Loops.{AnswersInput, LeavesReader, LeavesWriter};
 
 use crate::answering::answer_buffer;
-use crate::buffer::read_behind;
+use crate::buffer::{read_behind, read_fault};
 use crate::fault::LoopFault;
 use crate::handler::{ANSWER_ROOM, FrameHandler};
 use crate::writing::flush_all;
@@ -35,9 +35,8 @@ fn answer_with<H: FrameHandler, R: Source, W: Sink>(
         × Consumes (R.remaining reader.old) (R.remaining reader.new) input
         × Appends (W.contents writer.old) (W.contents writer.new) output
         × AnswersInput H.answers result handler.old handler.new input (R.remaining reader.new) output
-        × IsPassedOn result input (W.has_flushed writer.new) }
-    ensures reader_sound { OnOk result (R.has_failed reader.new ≡ false) }
-    ensures writer_sound { OnOk result (W.has_failed writer.new ≡ false) }
+        × LeavesWriter result input (W.has_failed writer.new) (W.has_flushed writer.new) }
+    ensures reader { LeavesReader result (R.has_failed reader.new) }
 {
     let mut len = 0;
     let mut passed = 0;
@@ -54,7 +53,7 @@ fn answer_with<H: FrameHandler, R: Source, W: Sink>(
                 len = left.0;
                 passed = left.1;
             }
-            Err(_) => return Err(LoopFault::ReadFailed),
+            Err(_) => return Err(read_fault(reader)),
         }
     }
     Err(LoopFault::TooManyBytes)
@@ -75,9 +74,8 @@ pub fn answer_frames<H: FrameHandler, R: Source, W: Sink>(
         × Consumes (R.remaining reader.old) (R.remaining reader.new) input
         × Appends (W.contents writer.old) (W.contents writer.new) output
         × AnswersInput H.answers result handler.old handler.new input (R.remaining reader.new) output
-        × IsPassedOn result input (W.has_flushed writer.new) }
-    ensures reader_sound { OnOk result (R.has_failed reader.new ≡ false) }
-    ensures writer_sound { OnOk result (W.has_failed writer.new ≡ false) }
+        × LeavesWriter result input (W.has_failed writer.new) (W.has_flushed writer.new) }
+    ensures reader { LeavesReader result (R.has_failed reader.new) }
 {
     let Ok(mut end) = Vec::with_capacity(alloc, ANSWER_ROOM) else {
         return Err(LoopFault::NoMemory);

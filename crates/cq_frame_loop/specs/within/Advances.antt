@@ -5,7 +5,7 @@ use Rattle.cq_frames.specs.declared.frame.TheConstants.{FRAME_LIMIT}
 use Rattle.cq_frame_loop.specs.Cutting.{frames_behind}
 use Rattle.cq_frame_loop.specs.Chains.{Relation, Step, IsChain, AnswersFront, BreaksOff, frames_in, text_in}
 use Rattle.cq_frame_loop.specs.declared.fault.LoopFault.{LoopFault}
-use Rattle.cq_frame_loop.specs.declared.fault.LoopFault.TheVariants.{NoMemory, ReadFailed, WriteFailed, Unanswered, TooManyBytes}
+use Rattle.cq_frame_loop.specs.declared.fault.LoopFault.TheVariants.{NoMemory, ReadFailed, WriteFailed, Unanswered, Interrupted, TooManyBytes}
 
 -- behind so many bytes these have this frame first, whatever comes behind them, and it takes so many bytes
 abbrev pub BeginsWith : List ℕ → Option (List ℕ) → ℕ → Type 0
@@ -22,14 +22,19 @@ pub record Advances {S : Type 0} (answers : Relation S) (first : S) (count : ℕ
   pub cut : Cuts count bytes (frames_in steps) later rest
   pub whole : told ≡ text_in steps
 
--- How a frame comes to a fault. What was told before it and isn't written yet is written, and of the frame's own text a prefix, if it was
--- answered at all.
+-- A write fails at a frame. Of what was told before it and isn't written yet, and of the frame's own text, if it was answered at all, a
+-- prefix is written.
+abbrev pub StopsAt : {S : Type 0} → Relation S → S → Option (List ℕ) → List ℕ → List ℕ → Type 0
+StopsAt {S} answers first frame told output =
+    (steps : List (Step S)) × (last : S) × IsChain answers first steps last × IsPrefix (frames_in steps) (frame ∷ []) × IsPrefix output (told ++ text_in steps)
+
+-- how a frame comes to a fault
 abbrev pub FailsAt : {S : Type 0} → Relation S → LoopFault → S → Option (List ℕ) → List ℕ → List ℕ → Type 0
 FailsAt answers NoMemory first frame told output = ⊥
 FailsAt answers ReadFailed first frame told output = ⊥
-FailsAt {S} answers WriteFailed first frame told output =
-    (steps : List (Step S)) × (last : S) × IsChain answers first steps last × IsPrefix (frames_in steps) (frame ∷ []) × IsPrefix output (told ++ text_in steps)
+FailsAt answers WriteFailed first frame told output = StopsAt answers first frame told output
 FailsAt answers Unanswered first frame told output = output ≡ told
+FailsAt answers Interrupted first frame told output = StopsAt answers first frame told output
 FailsAt answers TooManyBytes first frame told output = ⊥
 
 -- how frames come to a fault
@@ -38,6 +43,7 @@ FailsIn answers NoMemory first frames output = ⊥
 FailsIn answers ReadFailed first frames output = ⊥
 FailsIn answers WriteFailed first frames output = AnswersFront answers first frames output
 FailsIn answers Unanswered first frames output = BreaksOff answers first frames output
+FailsIn answers Interrupted first frames output = AnswersFront answers first frames output
 FailsIn answers TooManyBytes first frames output = ⊥
 
 -- The frames of these bytes were answered up to the last so many of them, which are an unfinished frame.

@@ -1,7 +1,7 @@
 -- One text behind the other.
 use Rattle.std.proofs.Common.{◌++◌}
 use Rattle.std.proofs.KnownBytes.{Appends-trans}
-use Rattle.cq_frame_loop.proofs.Passing.{both_passed}
+use Rattle.cq_frame_loop.proofs.Passing.{both_passed, prefix_more}
 use Rattle.cq_frame_loop.proofs.writing.write_both.Goals as goal
 
 pub returns-in-Ok-clause-takes : goal.returns-in-Ok-clause-takes
@@ -9,3 +9,8 @@ returns-in-Ok-clause-takes g c =
     let first = c.in-Ok.ensures.takes in
     let second = c.write_out-in-Ok.ensures.takes in
     (first.0 ++ second.0, Appends-trans _ _ _ first.0 second.0 first.1 second.1, both_passed c.write_out-in-Ok.result c.args.out.now.items c.args.end.now.items first.0 second.0 c.write_out.new.out.items first.2 c.in-Ok.ensures.empty second.2)
+
+pub returns-in-Err-clause-takes : goal.returns-in-Err-clause-takes
+returns-in-Err-clause-takes g c =
+    let took = c.in-Err.ensures.takes in
+    (took.0, took.1, (took.2.0, prefix_more c.args.out.now.items c.args.end.now.items took.0 took.2.1))
