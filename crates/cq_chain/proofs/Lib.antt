@@ -3,6 +3,7 @@ pub mod Fifos
 pub mod Mailing
 pub mod MasterStands
 pub mod Neighbours
+pub mod Next
 pub mod OrderStands
 pub mod Repairs
 pub mod Replicas

@@ -1,6 +1,7 @@
 pub mod Parties
 pub mod Faults
 pub mod Messages
+pub mod Next
 pub mod Fifos
 pub mod Servers
 pub mod Steps

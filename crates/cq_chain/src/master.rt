@@ -6,6 +6,7 @@ ghost use Rattle.cq_chain.specs.declared.fault.WorldFault.TheVariants as faults;
 ghost use Rattle.cq_chain.specs.Masters as masters;
 ghost use Rattle.cq_chain.specs.Masters.{first_master, detected, joined, hears, refusal_of_detection, refusal_of_join};
 ghost use Rattle.cq_chain.specs.Messages as sent;
+ghost use Rattle.cq_chain.specs.Next.{IsNext};
 ghost use Rattle.cq_chain.specs.Stands.{MasterStandsFor, Orders, KeepsMaster, IsRefusedBy, IsFirst, Means, drained};
 
 mod alone;
@@ -197,6 +198,15 @@ impl Master {
             → result ≡ length (outbox (parties.Server to)) }
     {
         self.outboxes.waiting(Party::Server(to)) as u64
+    }
+
+    /// The first server behind that one, or the first of all, by their numbers, for which a message waits: O(servers that a chain
+    /// ever had).
+    pub fn next_waiting(&self, after: Option<ServerId>) -> Option<ServerId>
+        ensures { (m : masters.Master) (outbox : rust_party.Party → List sent.Message) → MasterStandsFor self.now m outbox
+            → IsNext after outbox result }
+    {
+        self.outboxes.next_waiting(after)
     }
 
     /// The members of the chain, head first: O(1).

@@ -3,8 +3,9 @@ ghost use Rattle.std.specs.Prelude.{◌≡◌, ◌<◌, ◌≤◌, ◌==◌, Lis
 ghost use Rattle.std.specs.List.{list_all};
 ghost use Rattle.std.specs.Map.{values_of};
 ghost use Rattle.cq_base.specs.declared.party.Party as rust_party;
-ghost use Rattle.cq_chain.specs.within.Boxes.{messages_for, room_for, fifo_for};
+ghost use Rattle.cq_chain.specs.within.Boxes.{messages_for, room_for, fifo_for, nearer, nearer_party};
 ghost use Rattle.cq_chain.specs.Messages as sent;
+ghost use Rattle.cq_chain.specs.Next.{IsNext, is_above, is_below};
 ghost use Rattle.cq_chain.specs.Parties.{same};
 ghost use Rattle.cq_chain.specs.Stands.{Means, IsFirst, drained};
 ghost use Rattle.cq_chain.specs.Steps.{to_server};
@@ -40,6 +41,26 @@ impl Model for Outboxes {
     ghost Value = { List (rust_party.Party × stored.Fifo) };
 
     ghost view = { λ o. o.fifos.entries };
+}
+
+/// Whether that server comes behind the other one by its number. Behind none each comes.
+fn is_above(other: &Option<ServerId>, id: ServerId) -> bool
+    ensures { result ≡ is_above other.now id }
+{
+    match other {
+        Some(other) => other.get() < id.get(),
+        None => true,
+    }
+}
+
+/// Whether that server comes before the other one by its number. Before none each comes.
+fn is_below(other: &Option<ServerId>, id: ServerId) -> bool
+    ensures { result ≡ is_below other.now id }
+{
+    match other {
+        Some(other) => id.get() < other.get(),
+        None => true,
+    }
 }
 
 impl Outboxes {
@@ -78,6 +99,48 @@ impl Outboxes {
         ensures { result ≡ list_all (λ fifo. length fifo.messages == 0) (values_of self.now) }
     {
         self.fifos.values().all(|fifo| fifo.len() == 0)
+    }
+
+    /// That server, if it is between these two and something waits for it; else the second of them.
+    fn nearer(
+        &self,
+        after: &Option<ServerId>,
+        next: Option<ServerId>,
+        id: ServerId,
+    ) -> Option<ServerId>
+        ensures { result ≡ nearer self.now after.now next id }
+    {
+        if 0 < self.waiting(Party::Server(id)) && is_above(after, id) && is_below(&next, id) {
+            Some(id)
+        } else {
+            next
+        }
+    }
+
+    /// The same of any party; one that is no server isn't looked for.
+    fn nearer_party(
+        &self,
+        after: &Option<ServerId>,
+        next: Option<ServerId>,
+        party: Party,
+    ) -> Option<ServerId>
+        ensures { result ≡ nearer_party self.now after.now next party }
+    {
+        match party {
+            Party::Server(id) => self.nearer(after, next, id),
+            _ => next,
+        }
+    }
+
+    /// The first server behind that one, or the first of all, by their numbers, for which something waits: O(parties).
+    pub fn next_waiting(&self, after: Option<ServerId>) -> Option<ServerId>
+        ensures { (outbox : rust_party.Party → List sent.Message) → Waits self.now outbox → IsNext after outbox result }
+    {
+        let mut next = None;
+        for party in self.fifos.keys().as_slice() {
+            next = self.nearer_party(&after, next, *party);
+        }
+        next
     }
 
     /// A fifo for a party that has none, with room for so many messages.

@@ -3,6 +3,7 @@ ghost use Rattle.std.specs.Prelude.{◌≡◌, ◌≤◌, ◌+◌, ◌-◌, ◌=
 ghost use Rattle.cq_base.specs.declared.limits.TheConstants.{HISTORY_LIMIT};
 ghost use Rattle.cq_base.specs.declared.party.Party as rust_party;
 ghost use Rattle.cq_chain.specs.Messages as sent;
+ghost use Rattle.cq_chain.specs.Next.{IsNext};
 ghost use Rattle.cq_chain.specs.Servers as states;
 ghost use Rattle.cq_chain.specs.Servers.{first_member, joining, acts, kept};
 ghost use Rattle.cq_chain.specs.Stands.{StandsFor, IsFirst, drained};
@@ -155,6 +156,15 @@ impl Server {
             → result ≡ length (outbox to) }
     {
         self.outboxes.waiting(to) as u64
+    }
+
+    /// The first server behind that one, or the first of all, by their numbers, for which a message waits: O(servers to which a
+    /// message was ever to be sent).
+    pub fn next_waiting(&self, after: Option<ServerId>) -> Option<ServerId>
+        ensures { (s : states.Server) (outbox : rust_party.Party → List sent.Message) → StandsFor self.now s outbox
+            → IsNext after outbox result }
+    {
+        self.outboxes.next_waiting(after)
     }
 
     /// How many entries its history has: O(1).
