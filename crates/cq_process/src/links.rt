@@ -5,7 +5,7 @@ ghost use Rattle.cq_base.specs.declared.party.Party.TheVariants as parties;
 ghost use Rattle.cq_chain.specs.Stands.{Keeps};
 ghost use Rattle.cq_process.specs.declared.incoming.TakeFault.TheVariants.{NotNext};
 ghost use Rattle.cq_process.specs.declared.outgoing.PutFault.TheVariants as put_faults;
-ghost use Rattle.cq_process.specs.Links.{ChangesOnly, IsGoneToo, IsOpened, LetsGo, PutsAt, TakesPiece, ThrowsFrom, end_of, is_gone, received_from};
+ghost use Rattle.cq_process.specs.Links.{ChangesOnly, IsGoneToo, IsOpened, LetsGo, PutsAt, TakesPiece, ThrowsFrom, end_of, held_at, is_gone, received_from};
 
 use crate::incoming::{TakeFault, Taken};
 use crate::incoming_ends::IncomingEnds;
@@ -54,6 +54,13 @@ impl Links {
         ensures { result ≡ is_some (end_of self.now.outgoing to.now) }
     {
         self.outgoing.is_open(to)
+    }
+
+    /// Whether a message for the party is being written: some of its pieces are, and others are left. O(1).
+    pub fn is_held(&self, to: &Party) -> bool
+        ensures { result ≡ is_some (held_at (end_of self.now.outgoing to.now)) }
+    {
+        self.outgoing.is_held(to)
     }
 
     /// The link to the party is opened, if it isn't open. After `NoMemory` it isn't.

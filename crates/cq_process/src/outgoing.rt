@@ -1,5 +1,5 @@
 //! The end of a link to one party: a message is put once all of its pieces are written.
-ghost use Rattle.std.specs.Prelude.{◌≡◌, ◌+◌, ◌≤◌, ◌<◌, List, [], Option, None, Some, true, false, Ok, Err, OnOk, OnErr, IfErr};
+ghost use Rattle.std.specs.Prelude.{◌≡◌, ◌+◌, ◌≤◌, ◌<◌, List, [], Option, None, Some, is_some, true, false, Ok, Err, OnOk, OnErr, IfErr};
 ghost use Rattle.cq_base.specs.declared.party.Party as rust_party;
 ghost use Rattle.cq_chain.specs.declared.message.Message as rust_message;
 ghost use Rattle.cq_chain.specs.Messages as sent;
@@ -109,6 +109,13 @@ impl Outgoing {
         ensures { result ≡ self.now.put }
     {
         self.put
+    }
+
+    /// Whether a message is being written: O(1).
+    pub fn is_held(&self) -> bool
+        ensures { result ≡ is_some self.now.held }
+    {
+        self.held.is_some()
     }
 
     /// What holds of each end: a piece is left of the message that is held, and where none is, the writer is at its start. It does

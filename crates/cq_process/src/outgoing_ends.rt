@@ -1,7 +1,7 @@
 //! The ends of the links to all parties.
 ghost use Rattle.std.specs.Prelude.{◌≡◌, is_some, true, None, OnOk, OnErr};
 ghost use Rattle.cq_base.specs.declared.party.Party as rust_party;
-ghost use Rattle.cq_process.specs.Links.{ChangesOnly, IsOpened, PutsAt, ThrowsFrom, end_of};
+ghost use Rattle.cq_process.specs.Links.{ChangesOnly, IsOpened, PutsAt, ThrowsFrom, end_of, held_at};
 
 use crate::outgoing::{Outgoing, PutFault, Written};
 use cq_base::{NoMemory, Party};
@@ -41,6 +41,16 @@ impl OutgoingEnds {
         ensures { result ≡ is_some (end_of self.now to.now) }
     {
         self.ends.contains_key(to)
+    }
+
+    /// Whether a message for the party is being written: O(1).
+    pub fn is_held(&self, to: &Party) -> bool
+        ensures { result ≡ is_some (held_at (end_of self.now to.now)) }
+    {
+        match self.ends.get(to) {
+            Some(end) => end.is_held(),
+            None => false,
+        }
     }
 
     /// The link to the party is opened, if it isn't open.
