@@ -1,7 +1,8 @@
 -- A piece that is written behind its front, as one that is written behind nothing.
-use Rattle.std.proofs.Common.{◌≡◌, ◌≤◌, ◌∙◌, ℕ, ap, sym, refl, subst, List, [], ◌++◌, length, append-nil, length-append, arith, Result, Ok, Err}
-use Rattle.std.specs.Prelude.{IfOk, OnOk}
+use Rattle.std.proofs.Common.{◌≡◌, ◌≤◌, ◌∙◌, ℕ, ap, sym, refl, subst, List, [], ◌++◌, length, append-nil, append_assoc, length-append, arith, Result, Ok, Err}
+use Rattle.std.specs.Prelude.{IfOk, OnOk, OnErr}
 use Rattle.cq_base.specs.declared.party.Party.{Party}
+use Rattle.cq_base.specs.Relations.{IsPrefix}
 use Rattle.cq_chain.specs.declared.server.Server.{Server}
 use Rattle.cq_process.specs.declared.outgoing.PutFault.{PutFault}
 use Rattle.cq_process.specs.declared.outgoing.Written.{Written}
@@ -134,3 +135,18 @@ framed before after a b to old mid new r (Err fault) puts same tells = tt
 framed before after a b to old mid new r (Ok told) puts same tells =
     let h = rebased before after a b to (old ++ front to) mid r puts in
     subst (PutsFrame before after a b to old new) (sym same) (record { piece = h.0; puts = h.1.1; told = tells h.0 h.1.0 })
+
+-- ---- what stands before it
+
+-- a piece behind it leaves it there
+pub still-front : {A F : Type 0} (r : Result A F) (old mid new piece : List ℕ) → mid ≡ old ++ piece → OnErr r (new ≡ mid) → OnErr r (IsPrefix old new)
+still-front (Ok x) old mid new piece is h = tt
+still-front (Err fault) old mid new piece is h = (piece, h ∙ is)
+
+-- so does a front
+pub front-front : {A F : Type 0} (r : Result A F) (old mid new piece : List ℕ) → mid ≡ old ++ piece → OnErr r (IsPrefix mid new) → OnErr r (IsPrefix old new)
+front-front (Ok x) old mid new piece is h = tt
+front-front (Err fault) old mid new piece is h = (piece ++ h.0, h.1 ∙ ap (λ xs. xs ++ h.0) is ∙ append_assoc old piece h.0)
+
+pub same-front : (old new : List ℕ) → new ≡ old → IsPrefix old new
+same-front old new is = ([], is ∙ sym (append-nil old))

@@ -68,14 +68,15 @@ fn fill(bytes: &mut [u8], place: usize, mark: usize, number: u64, count: u32)
     write_u32_at(bytes, place + 12 + mark, count);
 }
 
-/// Makes a frame of what `put_front` wrote from `start` on and of the piece that stands behind it, from `body` on. It takes no
-/// memory: O(1).
+/// Makes a frame of what `put_front` wrote from `start` on and of the piece that stands behind it, from `body` on. Where the piece is
+/// too long the bytes are as before. It takes no memory: O(1).
 pub fn seal(out: &mut Vec<u8>, start: usize, body: usize, number: u64) -> Result<(), TooLong>
     requires order { start + 16 ≤ body }
     requires short { body ≤ start + 100 }
     requires within { body ≤ length out.old.items }
-    ensures { (old piece : List ℕ) (to : rust_party.Party) → out.old.items ≡ (old ++ front to) ++ piece → length old ≡ start
+    ensures ok { (old piece : List ℕ) (to : rust_party.Party) → out.old.items ≡ (old ++ front to) ++ piece → length old ≡ start
         → start + length (front to) ≡ body → OnOk result (out.new.items ≡ old ++ frame (responses.Put to number piece)) }
+    ensures err { OnErr result (out.new.items ≡ out.old.items) }
 {
     let count = out.len() - body;
     if PIECE_LIMIT < count {

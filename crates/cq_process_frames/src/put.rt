@@ -1,6 +1,7 @@
 //! The next piece for a party, told as a frame.
-ghost use Rattle.std.specs.Prelude.{◌≡◌, ◌+◌, ◌≤◌, ◌++◌, List, ℕ, [], length, is_some, true, Err, IfOk, OnOk, IfSome, IfNone};
+ghost use Rattle.std.specs.Prelude.{◌≡◌, ◌+◌, ◌≤◌, ◌++◌, List, ℕ, [], length, is_some, true, Err, IfOk, OnOk, OnErr, IfSome, IfNone};
 ghost use Rattle.cq_base.specs.declared.party.Party as rust_party;
+ghost use Rattle.cq_base.specs.Relations.{IsPrefix};
 ghost use Rattle.cq_chain.specs.Stands.{Keeps};
 ghost use Rattle.cq_frames.specs.declared.response.Response.TheVariants as responses;
 ghost use Rattle.cq_process.specs.Links.{ChangesOnly, end_of};
@@ -51,6 +52,7 @@ fn tell(
     ensures same { IfOk result (λ told. told ≡ written) }
     ensures told { (old piece : List ℕ) (to : rust_party.Party) → out.old.items ≡ (old ++ front to) ++ piece → length old ≡ start
         → start + length (front to) ≡ body → OnOk result (out.new.items ≡ old ++ told_of to written piece) }
+    ensures err { OnErr result (out.new.items ≡ out.old.items) }
     ensures memory { result ≡ Err unputs.NoMemory → ⊥ }
 {
     match number_of(&written) {
@@ -78,6 +80,7 @@ fn put_behind(
     requires begins { start + length (front to) ≡ length out.old.items }
     ensures puts { (old : List ℕ) → out.old.items ≡ old ++ front to
         → IfOk result (PutsFrame links.old.outgoing links.new.outgoing core.old core.new to old out.new.items) }
+    ensures err { OnErr result (IsPrefix out.old.items out.new.items) }
     ensures memory { result ≡ Err unputs.NoMemory → ⊥ }
     ensures others { ChangesOnly links.old.outgoing links.new.outgoing to }
     ensures incoming { links.new.incoming ≡ links.old.incoming }
@@ -89,7 +92,8 @@ fn put_behind(
 }
 
 /// Writes the next piece for the party, to which the link is open, as a frame behind the bytes: as `Links::put_next` does. It copies
-/// nothing. Where no piece is written, the bytes are as before.
+/// nothing. Where no piece is written, the bytes are as before; where it is too long, they have no more than a front of a frame behind
+/// them that has to be cut off.
 pub fn put_piece(
     links: &mut Links,
     core: &mut Server,
@@ -100,6 +104,7 @@ pub fn put_piece(
     requires { is_some (end_of links.old.outgoing to) ≡ true }
     ensures puts { IfOk result (PutsFrame links.old.outgoing links.new.outgoing core.old core.new to out.old.items out.new.items) }
     ensures no_memory { result ≡ Err unputs.NoMemory → Keeps core.old core.new × ((links.new.outgoing ≡ links.old.outgoing) × (out.new.items ≡ out.old.items)) }
+    ensures err { OnErr result (IsPrefix out.old.items out.new.items) }
     ensures others { ChangesOnly links.old.outgoing links.new.outgoing to }
     ensures incoming { links.new.incoming ≡ links.old.incoming }
     ensures gone { links.new.gone ≡ links.old.gone }

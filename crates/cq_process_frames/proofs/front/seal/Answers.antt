@@ -5,8 +5,8 @@ use Rattle.cq_process_frames.specs.Frames.{mark}
 use Rattle.cq_process_frames.proofs.Overwriting.{front-length, front-parts, parts-length, sealed}
 use Rattle.cq_process_frames.proofs.front.seal.Goals as goal
 
-pub returns : goal.returns
-returns c = λ old piece to is at ends.
+pub returns-clause-ok : goal.returns-clause-ok
+returns-clause-ok c = λ old piece to is at ends.
     let whole = parts-length c.args.out.now.items old piece to is in
     let front_is = front-length to in
     let is_size : length (mark to) ≡ c.args.body - c.args.start - 16 = omega arith in

@@ -2,7 +2,7 @@
 use Rattle.std.proofs.Common.{◌≡◌, ◌≤◌, ◌+◌, ◌∙◌, ap, sym, subst, length, length-append, arith}
 use Rattle.cq_process.specs.Links.{PutsAt}
 use Rattle.cq_process_frames.specs.Frames.{front}
-use Rattle.cq_process_frames.proofs.Framing.{framed, grows}
+use Rattle.cq_process_frames.proofs.Framing.{framed, grows, rebased, still-front}
 use Rattle.cq_process_frames.proofs.Overwriting.{front-short}
 use Rattle.cq_process_frames.proofs.put.put_behind.Goals as goal
 
@@ -23,3 +23,8 @@ returns-clause-puts c = λ old is.
     framed c.args.links.now.outgoing c.put_next-written.new.self.outgoing c.args.core.now c.put_next-written.new.core c.args.to old c.put_next-written.new.bytes.items c.tell.new.out.items c.put_next-written.result c.tell.result
     (subst (λ xs. PutsAt c.args.links.now.outgoing c.put_next-written.new.self.outgoing c.args.core.now c.put_next-written.new.core c.args.to xs c.put_next-written.new.bytes.items c.put_next-written.result) is c.put_next-written.ensures.puts)
     c.tell.ensures.same (λ piece written. c.tell.ensures.told old piece c.args.to written at (ends ∙ sym (c.len-body.ensures ∙ c.args.out.now.ok.0)))
+
+pub returns-clause-err : goal.returns-clause-err
+returns-clause-err c =
+    let behind = rebased c.args.links.now.outgoing c.put_next-written.new.self.outgoing c.args.core.now c.put_next-written.new.core c.args.to c.args.out.now.items c.put_next-written.new.bytes.items c.put_next-written.result c.put_next-written.ensures.puts in
+    still-front c.tell.result c.args.out.now.items c.put_next-written.new.bytes.items c.tell.new.out.items behind.0 behind.1.0 c.tell.ensures.err
