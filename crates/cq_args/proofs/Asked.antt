@@ -52,6 +52,20 @@ numeral_read {E} gives limit tells fails id rows f read is value text found nume
     go (Some v) reads = ap Some (tells text v reads)
     go None reads = absurd (fails text reads.0 reads.1 numeral small)
 
+if_some : {A : Type 0} (read : Option A) (n : A) (P : A → Type 0) → read ≡ Some n → IfSome read P → P n
+if_some (Some x) n P is h = subst P (some_same is) h
+if_some None n P is h = cc
+
+-- the number that was read of an option is that of its text
+pub number_found : {E : Type 0} (gives : Text → Result ℕ E → Type 0)
+    → ((text : Text) (n : ℕ) → gives text (Ok n) → n ≡ digits_value 10 (without_leading_plus text))
+    → (id : Text) (f : Found) (read : Option ℕ) (n m : ℕ)
+    → (one_text f id ≡ None → read ≡ None)
+    → ((text : Text) → one_text f id ≡ Some text → ReadsOne gives text read)
+    → read ≡ Some n → m ≡ n → IsNumber (one_of id (rows_of f)) m
+number_found gives tells id f read n m none value is same =
+    if_some read m (IsNumber (one_of id (rows_of f))) (is ∙ ap Some (sym same)) (number_read gives tells id (rows_of f) f read refl none value)
+
 rows_same : (f : Found) (p : Text × List Row) → Some (rows_of f) ≡ option_map (λ p. p.1) (Some p) → rows_of f ≡ p.1
 rows_same f p is = some_same is
 

@@ -1,7 +1,7 @@
 -- Worked command lines: what each asks for, or which faults it may be told. They were worked out by hand.
 use Rattle.std.proofs.Common.{◌≡◌, List, ◌∷◌, [], Option, None, Some, map, true, false, codes, refl}
 use Rattle.std.specs.Prelude.{option_and_then}
-use Rattle.clap.specs.Words.{Row, Text, fault_of, first_of, subcommand_of}
+use Rattle.clap.specs.Words.{Row, Text, fault_of, first_of, one_of, subcommand_of}
 use Rattle.clap.specs.declared.error.kind.ErrorKind.TheVariants.{OutOfMemory}
 use Rattle.clap.proofs.OnLiterals.{clap_on_literals}
 use Rattle.cq_args.specs.declared.invocation.Invocation.TheVariants.{Live, Replay, Session}
@@ -92,6 +92,35 @@ bad_file_args :
     ∷ false ∷ false ∷ []
 unfolding clap_on_literals
 bad_file_args = refl
+
+bad_process_args :
+    map (λ args. all_are is_usage (fault_of program_app args)) (
+    (codes "server" ∷ []) ∷ (codes "server" ∷ codes "--id" ∷ codes "0" ∷ codes "--joining" ∷ []) ∷ (codes "server" ∷ codes "--first" ∷ codes "3" ∷ [])
+    ∷ (codes "server" ∷ codes "--id" ∷ codes "1" ∷ codes "--first" ∷ codes "9" ∷ []) ∷ (codes "server" ∷ codes "--id" ∷ codes "4294967296" ∷ codes "--joining" ∷ [])
+    ∷ (codes "master" ∷ []) ∷ (codes "master" ∷ codes "--servers" ∷ codes "9" ∷ []) ∷ (codes "master" ∷ codes "--servers" ∷ codes "1" ∷ codes "extra" ∷ [])
+    ∷ (codes "server" ∷ codes "--id" ∷ codes "1" ∷ codes "--first" ∷ codes "3" ∷ []) ∷ (codes "server" ∷ codes "--joining" ∷ codes "--id=4294967295" ∷ [])
+    ∷ (codes "master" ∷ codes "--servers" ∷ codes "3" ∷ []) ∷ []
+    )
+    ≡ true ∷ true ∷ true
+    ∷ true ∷ true
+    ∷ true ∷ true ∷ true
+    ∷ false ∷ false
+    ∷ false ∷ []
+unfolding clap_on_literals
+bad_process_args = refl
+
+-- the numbers that a parse finds
+abbrev number_in : Text → Option (Text × List Row) → Option Text
+number_in id found = option_and_then (λ command. one_of id command.1) found
+
+processes_found :
+    map {B = Option Text × Option Text} (λ args. (number_in (codes "id") (subcommand_of program_app args), number_in (codes "first") (subcommand_of program_app args))) (
+    (codes "server" ∷ codes "--id" ∷ codes "1" ∷ codes "--first" ∷ codes "3" ∷ []) ∷ (codes "server" ∷ codes "--joining" ∷ codes "--id=4294967295" ∷ [])
+    ∷ (codes "master" ∷ codes "--servers" ∷ codes "3" ∷ []) ∷ []
+    )
+    ≡ (Some (codes "1"), Some (codes "3")) ∷ (Some (codes "4294967295"), None) ∷ (None, None) ∷ []
+unfolding clap_on_literals
+processes_found = refl
 
 help_args :
     map (λ args. all_are is_help (fault_of program_app args)) (

@@ -7,9 +7,9 @@ use Rattle.clap.specs.Simple.{on_top}
 use Rattle.clap.specs.declared.builder.action.ArgAction.TheVariants.{SetTrue}
 use Rattle.clap.specs.declared.builder.value_parser.ValueParser.TheVariants.{Signed, Unsigned}
 use Rattle.cq_args.specs.declared.invocation.Invocation.{Invocation}
-use Rattle.cq_args.specs.declared.invocation.Invocation.TheVariants.{Copy, Dump, Kept, Live, Replay, Session, Verify}
+use Rattle.cq_args.specs.declared.invocation.Invocation.TheVariants.{Copy, Dump, First, Joining, Kept, Live, Master, Replay, Session, Verify}
 
--- how many servers the chain begins with; no command about a journal's file has any
+-- how many servers the chain begins with; no command about a journal's file has any, and none about a server that joins
 abbrev pub size_of : Invocation → ℕ
 size_of (Replay size) = size
 size_of (Session size) = size
@@ -18,6 +18,9 @@ size_of (Live size turns) = size
 size_of (Verify path) = 0
 size_of (Copy path to) = 0
 size_of (Dump path) = 0
+size_of (First id size) = size
+size_of (Joining id) = 0
+size_of (Master size) = size
 
 -- the name of the command
 abbrev pub name_of : Invocation → Text
@@ -28,6 +31,9 @@ name_of (Live size turns) = codes "live"
 name_of (Verify path) = codes "verify"
 name_of (Copy path to) = codes "copy"
 name_of (Dump path) = codes "dump"
+name_of (First id size) = codes "server"
+name_of (Joining id) = codes "server"
+name_of (Master size) = codes "master"
 
 -- `--servers N`, a number from 1 to 8, and its text if it isn't given
 abbrev pub servers_rule : Text → Rule
@@ -45,6 +51,13 @@ command_app name default = with_rule (new_app name) (servers_rule default)
 -- the name of the command for sessions
 abbrev pub session_name : Text
 session_name = codes "session"
+
+-- the names of the commands for processes
+abbrev pub server_name : Text
+server_name = codes "server"
+
+abbrev pub master_name : Text
+master_name = codes "master"
 
 -- `--journal FILE`
 abbrev pub journal_rule : Rule
@@ -124,8 +137,53 @@ serving_app =
     live_app
 
 -- the program, with `verify`, `copy` and `dump` too
+abbrev pub journal_app : App
+journal_app = with_command (with_command (with_command serving_app (file_app (codes "verify"))) copy_app) (file_app (codes "dump"))
+
+-- `--id N`, a number from 1 to 2^32 - 1, which has to be there
+abbrev pub id_rule : Rule
+id_rule = record (new_rule (codes "id")) {
+  long = Some (codes "id");
+  value_names = 1;
+  required = true;
+  parser = Some (Signed (pos 1) (pos 4294967295));
+}
+
+-- `--first SIZE`, a number from 1 to 8
+abbrev pub first_rule : Rule
+first_rule = record (new_rule (codes "first")) {
+  long = Some (codes "first");
+  value_names = 1;
+  parser = Some (Signed (pos 1) (pos 8));
+}
+
+-- `--joining`
+abbrev pub joining_rule : Rule
+joining_rule = record (new_rule (codes "joining")) {
+  long = Some (codes "joining");
+  action = Some SetTrue;
+}
+
+-- `server --id N [--first SIZE] [--joining]`, of which one has to be there
+abbrev pub server_app : App
+server_app = with_rule (with_rule (with_rule (new_app (codes "server")) id_rule) first_rule) joining_rule
+
+-- `--servers N`, a number from 1 to 8, which has to be there
+abbrev pub size_rule : Rule
+size_rule = record (new_rule (codes "servers")) {
+  long = Some (codes "servers");
+  value_names = 1;
+  required = true;
+  parser = Some (Signed (pos 1) (pos 8));
+}
+
+-- `master --servers N`
+abbrev pub master_app : App
+master_app = with_rule (new_app (codes "master")) size_rule
+
+-- the program, with `server` and `master` too
 abbrev pub program_app : App
-program_app = with_command (with_command (with_command serving_app (file_app (codes "verify"))) copy_app) (file_app (codes "dump"))
+program_app = with_command (with_command journal_app server_app) master_app
 
 -- the text of the number of servers that a parse found: "1" where no subcommand stands
 abbrev pub text_in : Option (Text × List Row) → Option Text
@@ -181,6 +239,8 @@ abbrev pub HasServers : Option (Text × List Row) → Invocation → Type 0
 HasServers found (Verify path) = ⊤
 HasServers found (Copy path to) = ⊤
 HasServers found (Dump path) = ⊤
+HasServers found (First id size) = ⊤
+HasServers found (Joining id) = ⊤
 HasServers found invocation = IsSized found (size_of invocation)
 
 -- these files are named, if the command is about any
@@ -195,10 +255,33 @@ abbrev pub HasFiles : Option (Text × List Row) → Invocation → Type 0
 HasFiles None invocation = IsOnFile invocation → ⊥
 HasFiles (Some found) invocation = AsksFiles found.1 invocation
 
--- the command of that name is asked for, on so many servers, for so many turns, with that journal, or about these files
+-- it is a process of a chain
+abbrev pub IsProcess : Invocation → Type 0
+IsProcess (First id size) = ⊤
+IsProcess (Joining id) = ⊤
+IsProcess (Master size) = ⊤
+IsProcess _ = ⊥
+
+-- it keeps that server of a first chain of so many, that server which joins, or the master of a first chain of so many
+abbrev pub AsksProcess : List Row → Invocation → Type 0
+AsksProcess rows (First id size) =
+    IsNumber (one_of (codes "id") rows) id × IsNumber (one_of (codes "first") rows) size × (id ≤ size)
+    × (one_of (codes "joining") rows ≡ Some (codes "true") → ⊥)
+AsksProcess rows (Joining id) = IsNumber (one_of (codes "id") rows) id × (one_of (codes "joining") rows ≡ Some (codes "false") → ⊥)
+AsksProcess rows (Master size) = IsNumber (one_of (codes "servers") rows) size
+AsksProcess rows _ = ⊤
+
+-- and that is so of what a parse found
+abbrev pub HasProcess : Option (Text × List Row) → Invocation → Type 0
+HasProcess None invocation = IsProcess invocation → ⊥
+HasProcess (Some found) invocation = AsksProcess found.1 invocation
+
+-- the command of that name is asked for, on so many servers, for so many turns, with that journal, about these files, or as that
+-- process of a chain
 abbrev pub IsAsked : Option (Text × List Row) → Invocation → Type 0
 IsAsked found invocation =
     (name_in found ≡ name_of invocation) × HasServers found invocation × HasTurns found invocation × HasJournal found invocation × HasFiles found invocation
+    × HasProcess found invocation
 
 -- ---- good arguments
 
@@ -214,7 +297,7 @@ abbrev pub LacksJournal : List Row → Type 0
 LacksJournal rows = (first_of (codes "journal") rows ≡ None) × (one_of (codes "journal-size") rows ≡ None) × (one_of (codes "two-syncs") rows ≡ Some (codes "false"))
     × (one_of (codes "tell-store") rows ≡ Some (codes "false"))
 
--- if it is a session without one that is chosen
+-- if it is a session without one that is chosen; no command about a file, and no process of a chain, is
 abbrev pub LacksJournalIn : Option (Text × List Row) → Invocation → Type 0
 LacksJournalIn (Some found) (Session size) = LacksJournal found.1
 LacksJournalIn None (Session size) = ⊥
@@ -222,6 +305,9 @@ LacksJournalIn found (Kept size journal) = ⊥
 LacksJournalIn found (Verify path) = ⊥
 LacksJournalIn found (Copy path to) = ⊥
 LacksJournalIn found (Dump path) = ⊥
+LacksJournalIn found (First id size) = ⊥
+LacksJournalIn found (Joining id) = ⊥
+LacksJournalIn found (Master size) = ⊥
 LacksJournalIn found _ = ⊤
 
 -- the number that a text of one digit from 1 to 8 is

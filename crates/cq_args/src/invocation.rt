@@ -6,11 +6,11 @@ ghost use Rattle.clap.specs.declared.builder.command.Command.TheViews.{out-Comma
 ghost use Rattle.clap.specs.declared.error.kind.ErrorKind.TheVariants.{OutOfMemory};
 ghost use Rattle.cq_args.specs.declared.invocation.TheConstants.{ZERO_DIGIT};
 ghost use Rattle.cq_args.specs.declared.invocation.Invocation.{Invocation};
-ghost use Rattle.cq_args.specs.CommandLine.{AsksFiles, AsksJournal, IsAsked, IsOnFile, LacksJournal, LacksJournalIn, IsNumber, IsSized, ReadsTurns, asked_invocation, command_app, copy_app, file_app, file_rule, journal_rule, journal_size_rule, live_app, name_in, name_of, program_app, serving_app, session_app, session_name, size_of, tell_store_rule, text_in, turns_rule, turns_text, two_syncs_rule};
+ghost use Rattle.cq_args.specs.CommandLine.{AsksFiles, AsksJournal, AsksProcess, IsAsked, IsOnFile, IsProcess, LacksJournal, LacksJournalIn, IsNumber, IsSized, ReadsTurns, asked_invocation, command_app, copy_app, file_app, file_rule, first_rule, id_rule, joining_rule, journal_app, journal_rule, journal_size_rule, live_app, master_app, master_name, name_in, name_of, program_app, server_app, server_name, serving_app, size_rule, session_app, session_name, size_of, tell_store_rule, text_in, turns_rule, turns_text, two_syncs_rule};
 
 use clap::error::ErrorKind;
 use clap::{Arg, ArgAction, ArgMatches, Command, Error, value_parser};
-use cq_base::{CHAIN_LIMIT, ChainSize};
+use cq_base::{CHAIN_LIMIT, ChainSize, ServerId};
 use std::alloc::{AllocError, Global};
 use std::convert::AsStr;
 
@@ -68,6 +68,19 @@ pub enum Invocation<'a> {
     Dump {
         path: &'a str,
     },
+    /// A process that keeps the server of that number, at most `size`, of a first chain of so many.
+    First {
+        id: ServerId,
+        size: ChainSize,
+    },
+    /// A process that keeps the server of that number, which joins a chain later.
+    Joining {
+        id: ServerId,
+    },
+    /// A process that keeps the master of a first chain of so many servers.
+    Master {
+        size: ChainSize,
+    },
 }
 
 const REPLAY: &str = "replay";
@@ -82,11 +95,21 @@ const COPY: &str = "copy";
 
 const DUMP: &str = "dump";
 
+const SERVER: &str = "server";
+
+const MASTER: &str = "master";
+
 const FILE: &str = "FILE";
 
 const TO: &str = "TO";
 
 const SERVERS: &str = "servers";
+
+const ID: &str = "id";
+
+const FIRST: &str = "first";
+
+const JOINING: &str = "joining";
 
 const TURNS: &str = "turns";
 
@@ -296,9 +319,84 @@ fn serving_program<'a>(alloc: Global) -> Result<Command<'a>, AllocError>
         .subcommand(live)
 }
 
-/// The program's command line.
-fn program<'a>(alloc: Global) -> Result<Command<'a>, AllocError>
-    ensures { IfOk result (λ command. app_of command ≡ program_app) }
+/// The number of a server, as an option.
+fn id_option<'a>(alloc: Global) -> Arg<'a>
+    ensures rule { rule_of result ≡ id_rule }
+    ensures local { result.global ≡ false }
+{
+    Arg::new(alloc, ID)
+        .long(ID)
+        .value_name("N")
+        .required(true)
+        .value_parser(value_parser!(u32).range(1..=i64::from(u32::MAX)))
+        .help(
+            "The number of the server, from 1 to 4294967295, which no other server of the chain ever has",
+        )
+}
+
+/// The number of servers of a first chain, as an option of one of them.
+fn first_option<'a>(alloc: Global) -> Arg<'a>
+    ensures rule { rule_of result ≡ first_rule }
+    ensures local { result.global ≡ false }
+{
+    Arg::new(alloc, FIRST)
+        .long(FIRST)
+        .value_name("SIZE")
+        .value_parser(value_parser!(u8).range(1..=i64::from(CHAIN_LIMIT)))
+        .help("It is one of the first servers of a chain, of so many, from 1 to 8")
+}
+
+/// Whether a server joins later, as an option.
+fn joining_option<'a>(alloc: Global) -> Arg<'a>
+    ensures rule { rule_of result ≡ joining_rule }
+    ensures local { result.global ≡ false }
+{
+    Arg::new(alloc, JOINING)
+        .long(JOINING)
+        .action(ArgAction::SetTrue)
+        .help("It joins a chain, once the master lets it")
+}
+
+/// The subcommand for a process that keeps a server.
+fn server<'a>(alloc: Global) -> Result<Command<'a>, AllocError>
+    ensures app { IfOk result (λ command. app_of command ≡ server_app) }
+    ensures local { IfOk result (λ command. (out-Command command).has_globals ≡ false) }
+{
+    let command = Command::new(alloc, SERVER)
+        .about(
+            "Keeps one server of a chain: it is told commands on standard input, and tells what comes of them on standard output, as frames",
+        )
+        .arg(id_option(alloc))?;
+    let command = command.arg(first_option(alloc))?;
+    command.arg(joining_option(alloc))
+}
+
+/// The number of servers of a first chain, as an option of its master.
+fn size_option<'a>(alloc: Global) -> Arg<'a>
+    ensures rule { rule_of result ≡ size_rule }
+    ensures local { result.global ≡ false }
+{
+    Arg::new(alloc, SERVERS)
+        .long(SERVERS)
+        .value_name("N")
+        .required(true)
+        .value_parser(value_parser!(u8).range(1..=i64::from(CHAIN_LIMIT)))
+        .help("How many servers the chain begins with, from 1 to 8")
+}
+
+/// The subcommand for a process that keeps the master.
+fn master<'a>(alloc: Global) -> Result<Command<'a>, AllocError>
+    ensures app { IfOk result (λ command. app_of command ≡ master_app) }
+    ensures local { IfOk result (λ command. (out-Command command).has_globals ≡ false) }
+{
+    Command::new(alloc, MASTER)
+        .about("Keeps the master of a chain, as 'cq server' keeps a server")
+        .arg(size_option(alloc))
+}
+
+/// The program's command line without those commands that are about a process of a chain.
+fn journal_program<'a>(alloc: Global) -> Result<Command<'a>, AllocError>
+    ensures { IfOk result (λ command. app_of command ≡ journal_app) }
 {
     let program = serving_program(alloc)?;
     let verify = file_command(
@@ -316,6 +414,16 @@ fn program<'a>(alloc: Global) -> Result<Command<'a>, AllocError>
         .subcommand(verify)?
         .subcommand(copy)?
         .subcommand(dump)
+}
+
+/// The program's command line.
+fn program<'a>(alloc: Global) -> Result<Command<'a>, AllocError>
+    ensures { IfOk result (λ command. app_of command ≡ program_app) }
+{
+    let program = journal_program(alloc)?;
+    let server = server(alloc)?;
+    let master = master(alloc)?;
+    program.subcommand(server)?.subcommand(master)
 }
 
 /// How many servers are asked for; one where no subcommand stands.
@@ -412,6 +520,45 @@ fn file_word_in<'a>(name: &str, options: &ArgMatches<'a>) -> Option<Invocation<'
     }
 }
 
+/// The process that keeps a server, as these options say. `None`: it is neither a first server nor one that joins, or both, or its
+/// number is above the chain's size.
+fn server_in<'a>(options: &ArgMatches<'a>) -> Option<Invocation<'a>>
+    ensures { IfSome result (λ it. (name_of it ≡ server_name) × IsProcess it × AsksProcess (rows_of (found_of options.now)) it) }
+{
+    let id = ServerId::new(options.get_one::<u32>(ID)?)?;
+    let size = options.get_one::<u8>(FIRST);
+    if options.get_flag(JOINING) {
+        return match size {
+            None => Some(Invocation::Joining { id }),
+            Some(_) => None,
+        };
+    }
+    let size = ChainSize::new(size?)?;
+    if u32::from(size.get()) < id.get() {
+        return None;
+    }
+    Some(Invocation::First { id, size })
+}
+
+/// The process that keeps the master, as these options say.
+fn master_in<'a>(options: &ArgMatches<'a>) -> Option<Invocation<'a>>
+    ensures { IfSome result (λ it. (name_of it ≡ master_name) × IsProcess it × AsksProcess (rows_of (found_of options.now)) it) }
+{
+    let size = ChainSize::new(options.get_one::<u8>(SERVERS)?)?;
+    Some(Invocation::Master { size })
+}
+
+/// The process of a chain of this name, as these options say. `None`: there is no such process.
+fn process_in<'a>(name: &str, options: &ArgMatches<'a>) -> Option<Invocation<'a>>
+    ensures { IfSome result (λ it. (name_of it ≡ name.now) × IsProcess it × AsksProcess (rows_of (found_of options.now)) it) }
+{
+    match name {
+        SERVER => server_in(options),
+        MASTER => master_in(options),
+        _ => None,
+    }
+}
+
 /// What is asked for; a replay where no subcommand stands.
 fn invocation_in<'a>(matches: &ArgMatches<'a>) -> Option<Invocation<'a>>
     ensures asked { IfSome result (IsAsked (subcommand_rows_of matches.now)) }
@@ -421,6 +568,7 @@ fn invocation_in<'a>(matches: &ArgMatches<'a>) -> Option<Invocation<'a>>
 {
     match matches.subcommand() {
         Some((name @ (VERIFY | COPY | DUMP), options)) => file_word_in(name, options),
+        Some((name @ (SERVER | MASTER), options)) => process_in(name, options),
         _ => serving_in(matches),
     }
 }
@@ -441,6 +589,6 @@ pub fn invocation_of<'a, S: AsStr>(alloc: Global, args: &'a [S]) -> Result<Invoc
     }
     Err(program.error(
         ErrorKind::InvalidValue,
-        "a number is missing or out of its range, or '--journal FILE' is missing",
+        "a number is missing or out of its range, '--journal FILE' is missing, or a server needs one of '--first SIZE' and '--joining'",
     )?)
 }

@@ -1,7 +1,8 @@
 -- What a parse of the arguments gives is what they ask for, and where it fails it says why.
-use Rattle.std.proofs.Common.{◌≡◌, ◌∙◌, Some, ap, map, sym}
+use Rattle.std.proofs.Common.{◌≡◌, ◌∙◌, Some, ap, map, subst, sym}
 use Rattle.std.proofs.lemmas.Result.{err_from_is_err_and}
 use Rattle.clap.specs.Words.{fault_of, is_simple, is_simple_and_free, subcommand_of, takes}
+use Rattle.cq_args.specs.CommandLine.{IsAsked}
 use Rattle.cq_args.proofs.Asked.{kinds_at, program_is_free, program_is_simple}
 use Rattle.cq_args.proofs.Good.{is_found, is_good}
 use Rattle.cq_args.proofs.invocation.invocation_of.Goals as goal
@@ -39,3 +40,14 @@ returns-clause-good g c = λ invocation asked.
     let found = is_found _ args invocation rows asked c.invocation_in.ensures.good in
     let none = c.in_default.is in
     cc
+
+pub returns-in-Some-clause-asked : goal.returns-in-Some-clause-asked
+returns-in-Some-clause-asked g c =
+    let args = map g.S.AsStr.text c.args.args.now in
+    let rows = (c.in_ok-matches.ensures.ok.2 (ap is_simple c.in_ok-program.ensures ∙ program_is_simple)).1 ∙ ap (λ app. subcommand_of app args) c.in_ok-program.ensures in
+    subst (λ found. IsAsked found c.in-Some.invocation) rows c.in-Some.ensures.asked
+
+pub returns-clause-faults : goal.returns-clause-faults
+returns-clause-faults g c = λ some.
+    let args = map g.S.AsStr.text c.args.args.now in
+    absurd (some (ap (λ app. fault_of app args) (sym c.in_ok-program.ensures) ∙ c.in_ok-matches.ensures.kinds (ap is_simple_and_free c.in_ok-program.ensures ∙ program_is_free)))

@@ -5,9 +5,7 @@ use Rattle.cq_args.proofs.invocation.program.Goals as goal
 
 pub returns : goal.returns
 returns c =
-    let with_verify = c.in_ok-subcommand.ensures.shape c.in_ok-verify.ensures.local
-    ∙ ap₂ with_subcommand c.in_ok-program.ensures (ap (λ (a : App). a.top) c.in_ok-verify.ensures.app) in
-    let with_copy = c.in_ok-subcommand-2.ensures.shape c.in_ok-copy.ensures.local
-    ∙ ap₂ with_subcommand with_verify (ap (λ (a : App). a.top) c.in_ok-copy.ensures.app) in
-    IfOk-weaker c.subcommand-3.result _ _ (λ command adds. adds.shape c.in_ok-dump.ensures.local
-    ∙ ap₂ with_subcommand with_copy (ap (λ (a : App). a.top) c.in_ok-dump.ensures.app)) c.subcommand-3.ensures
+    let with_server = c.in_ok-subcommand.ensures.shape c.in_ok-server.ensures.local
+    ∙ ap₂ with_subcommand c.in_ok-program.ensures (ap (λ (a : App). a.top) c.in_ok-server.ensures.app) in
+    IfOk-weaker c.subcommand-2.result _ _ (λ command adds. adds.shape c.in_ok-master.ensures.local
+    ∙ ap₂ with_subcommand with_server (ap (λ (a : App). a.top) c.in_ok-master.ensures.app)) c.subcommand-2.ensures
