@@ -1,0 +1,4 @@
+pub mod Turns
+pub mod Rounds
+pub mod Answers
+pub mod Processes

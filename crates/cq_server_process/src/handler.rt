@@ -1,0 +1,21 @@
+//! The process as what answers frames.
+use crate::process::ServerProcess;
+use cq_frame_loop::{FrameHandler, Unanswered};
+
+impl FrameHandler for ServerProcess {
+    ghost use Rattle.cq_server_process.specs.Processes.{answers};
+
+    ghost answers = { answers };
+
+    fn answer(
+        &mut self,
+        frame: Option<&[u8]>,
+        out: &mut Vec<u8>,
+        end: &mut Vec<u8>,
+    ) -> Result<(), Unanswered> {
+        match self.answer_frame(frame, out, end) {
+            Ok(()) => Ok(()),
+            Err(_) => Err(Unanswered),
+        }
+    }
+}

@@ -1,0 +1,13 @@
+//! A process that keeps one server of a chain: what it does of each command, and what it tells, as frames. `specs/` holds the rules.
+#![tactic(auto)]
+
+mod answer;
+mod commands;
+mod handler;
+mod process;
+mod send;
+mod turn;
+mod turns;
+
+pub use process::ServerProcess;
+pub use turn::Stop;

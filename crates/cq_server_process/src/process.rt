@@ -1,0 +1,67 @@
+//! A process that keeps one server of a chain.
+ghost use Rattle.std.specs.Prelude.{◌≡◌, ◌≤◌, option_map, vec_capacity, vec_len, IfOk, OnErr, OnOk};
+ghost use Rattle.cq_base.specs.Relations.{IsPrefix};
+ghost use Rattle.cq_chain.specs.Servers.{first_member, joining};
+ghost use Rattle.cq_server_process.specs.Answers.{IsNewProcess, TellsAnswer, state};
+
+use crate::answer::answer;
+use cq_base::{ChainSize, NoMemory, ServerId};
+use cq_chain::Server;
+use cq_process::Links;
+use cq_process_frames::TooLong;
+use std::alloc::Global;
+
+/// A server of a chain, with its links to all others. It is told commands, and tells what comes of them, as frames.
+#[derive(Drop)]
+pub struct ServerProcess {
+    alloc: Global,
+    links: Links,
+    core: Server,
+}
+
+impl ServerProcess {
+    /// The server of that number in a first chain of so many. It keeps the allocator.
+    pub fn first(alloc: Global, id: ServerId, size: ChainSize) -> Result<ServerProcess, NoMemory>
+        requires { id ≤ size }
+        ensures { IfOk result (λ process. IsNewProcess (first_member size id) (state process.links process.core)) }
+    {
+        let core = Server::first(alloc, id, size)?;
+        Ok(ServerProcess {
+            alloc,
+            links: Links::new(alloc),
+            core,
+        })
+    }
+
+    /// The server of that number, which joins a chain later. It keeps the allocator.
+    pub fn joining(alloc: Global, id: ServerId) -> Result<ServerProcess, NoMemory>
+        ensures { IfOk result (λ process. IsNewProcess joining (state process.links process.core)) }
+    {
+        let core = Server::joining(alloc, id)?;
+        Ok(ServerProcess {
+            alloc,
+            links: Links::new(alloc),
+            core,
+        })
+    }
+
+    /// Answers the bytes of a frame, or a frame that was too long. What it tells is what comes behind `out`, and then `end`, which is
+    /// to be empty and to have room for 64 bytes: so what has happened is told without memory. What it takes is what the command
+    /// takes, and writing what it puts.
+    ///
+    /// `TooLong` comes where a piece is too long for a frame: what comes behind `out` then tells nothing, and the process has to end.
+    pub fn answer_frame(
+        &mut self,
+        frame: Option<&[u8]>,
+        out: &mut Vec<u8>,
+        end: &mut Vec<u8>,
+    ) -> Result<(), TooLong>
+        requires empty { vec_len end.old ≡ 0 }
+        requires room { 64 ≤ vec_capacity end.old }
+        ensures tells { OnOk result (TellsAnswer (option_map (λ bytes. bytes.now) frame.entry) (state self.old.links self.old.core) (state self.new.links self.new.core) out.old.items out.new.items end.new.items) }
+        ensures err { OnErr result (IsPrefix out.old.items out.new.items) }
+        ensures capacity { vec_capacity end.old ≤ vec_capacity end.new }
+    {
+        answer(self.alloc, &mut self.links, &mut self.core, frame, out, end)
+    }
+}
