@@ -1,0 +1,3 @@
+-- What the clauses of private functions cite. Nobody who calls this crate has to read it.
+pub mod Behind
+pub mod Telling
