@@ -1,6 +1,7 @@
 //! What a process that keeps the master of a chain does of each command, and what it tells of it, as frames. `specs/` holds the rules.
 #![tactic(auto)]
 
+mod handler;
 mod numbers;
 mod process;
 mod telling;

@@ -106,7 +106,7 @@ impl MasterProcess {
     /// `end`: the last part of an answer is told there, so it never wants memory. After `Unanswered` the process has to end.
     ///
     /// O(bytes of the frame and of what is told), expected, and what the core's call takes.
-    pub fn answer(
+    pub fn answer_frame(
         &mut self,
         frame: Option<&[u8]>,
         out: &mut Vec<u8>,

@@ -1,7 +1,7 @@
 -- A frame that was too long is unread.
 use Rattle.std.proofs.Common.{◌≡◌, ◌∙◌, ap, length, arith}
 use Rattle.cq_master_process.proofs.Answered.{long-frame, same-front}
-use Rattle.cq_master_process.proofs.process.MasterProcess.answer.Goals as goal
+use Rattle.cq_master_process.proofs.process.MasterProcess.answer_frame.Goals as goal
 
 pub tell_unread-requires : goal.tell_unread-requires
 tell_unread-requires c = let none = ap (λ xs. length xs) c.requires.empty in let long = c.args.end.now.ok.0 in let room = c.requires.room in omega arith

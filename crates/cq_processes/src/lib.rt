@@ -1,0 +1,8 @@
+//! The processes of a chain: frames are read, answered by a server or by the master, and written, until the input ends. `specs/` holds
+//! the rules.
+#![tactic(auto)]
+
+mod keep;
+
+pub use cq_frame_loop::LoopFault;
+pub use keep::{keep_first, keep_joining, keep_master};
