@@ -5,7 +5,7 @@ use Rattle.cq_frame_loop.specs.Cutting.{frames_of}
 use Rattle.cq_frame_loop.specs.Chains.{Relation, AnswersAll, AnswersFront, BreaksOff}
 use Rattle.cq_frame_loop.specs.declared.fault.LoopFault.{LoopFault}
 use Rattle.cq_frame_loop.specs.declared.fault.LoopFault.TheVariants.{NoMemory, ReadFailed, WriteFailed, Unanswered, Interrupted, TooManyBytes}
-use Rattle.cq_frame_loop.specs.declared.frame_loop.TheConstants.{BYTES_LIMIT}
+use Rattle.cq_lines.specs.declared.text.TheConstants.{BYTES_LIMIT}
 
 -- The input was read, and the reader has these bytes left, if that is known. The output was written, and the handler came from the first
 -- state to the last. Memory is wanting only before the first read.

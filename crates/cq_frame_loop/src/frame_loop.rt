@@ -9,14 +9,11 @@ use crate::fault::LoopFault;
 use crate::handler::{ANSWER_ROOM, FrameHandler};
 use crate::writing::flush_all;
 use cq_frames::FRAME_LIMIT;
-use cq_lines::{Sink, Source};
+use cq_lines::{BYTES_LIMIT, Sink, Source};
 use std::alloc::Global;
 
 /// How many bytes of the input are held: a frame with its length, and what one read may bring behind it.
 pub const BUFFER_SIZE: usize = FRAME_LIMIT + 65_540;
-
-/// The most bytes that 64 bits can count.
-pub const BYTES_LIMIT: u64 = u64::MAX;
 
 /// Answers the frames that the reader gives, with buffers that are empty.
 fn answer_with<H: FrameHandler, R: Source, W: Sink>(

@@ -10,5 +10,5 @@ mod handler;
 mod writing;
 
 pub use fault::LoopFault;
-pub use frame_loop::{BUFFER_SIZE, BYTES_LIMIT, answer_frames};
+pub use frame_loop::{BUFFER_SIZE, answer_frames};
 pub use handler::{ANSWER_ROOM, FrameHandler, Unanswered};
