@@ -1,6 +1,8 @@
 -- Worked inputs, and what is told of their frames. The results were worked out by hand.
 use Rattle.std.proofs.Common.{◌≡◌, ℕ, ◌+◌, List, [], ◌∷◌, ◌++◌, map, Some, None, refl}
+use Rattle.std.specs.List.{flat_map}
 use Rattle.cq_frames.specs.Frames.{frame_at}
+use Rattle.cq_wire.specs.Layout.{number32, text}
 use Rattle.cq_wire.specs.Reading.{number_at, bytes_at}
 use Rattle.cq_frame_loop.specs.Cutting.{frames_behind, frames_of, said_size}
 use Rattle.cq_frame_loop.specs.Chains.{Relation, AnswersAll, AnswersFront, BreaksOff}
@@ -36,6 +38,11 @@ overlong_frames = refl
 frames_passed : map (frames_behind 6) ((9 ∷ 9 ∷ []) ∷ (9 ∷ (seven ++ empty)) ∷ (seven ++ (9 ∷ seven)) ∷ []) ≡ [] ∷ (Some [] ∷ []) ∷ (Some (7 ∷ []) ∷ []) ∷ []
 unfolding frames_behind said_size frame_at number_at bytes_at
 frames_passed = refl
+
+-- the same two as they are written
+written_frames : flat_map text ((7 ∷ []) ∷ [] ∷ []) ≡ seven ++ empty
+unfolding text number32
+written_frames = refl
 
 -- ---- answers
 

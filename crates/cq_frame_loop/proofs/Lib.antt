@@ -1,4 +1,5 @@
 pub mod Cuts
+pub mod Written
 pub mod Passing
 pub mod Chaining
 pub mod Advancing

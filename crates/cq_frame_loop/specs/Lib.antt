@@ -1,5 +1,6 @@
 -- the frames of an input
 pub mod Cutting
+pub mod Laws
 -- what is told of them
 pub mod Chains
 pub mod Loops

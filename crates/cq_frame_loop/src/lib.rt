@@ -7,6 +7,7 @@ mod fault;
 mod frame_loop;
 mod front;
 mod handler;
+pub mod laws;
 mod writing;
 
 pub use fault::LoopFault;
