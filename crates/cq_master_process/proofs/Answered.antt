@@ -7,8 +7,8 @@ use Rattle.cq_frames.specs.declared.response.Response.TheVariants.{Refused, Unre
 use Rattle.cq_frames.specs.Reading.{command_at}
 use Rattle.cq_master_process.specs.declared.process.MasterProcess.{MasterProcess}
 use Rattle.cq_master_process.specs.declared.process.TheConstants.{NO_MEMORY}
-use Rattle.cq_master_process.specs.Answering.{Answers, AnswersRead, told_behind}
-use Rattle.cq_master_process.specs.Numbers.{numbers_of}
+use Rattle.cq_master_process.specs.Answering.{AnswersRead, told_behind}
+use Rattle.cq_master_process.specs.Links.{put_of}
 use Rattle.cq_master_process.specs.Refusing.{Refuses}
 use Rattle.cq_master_process.specs.Steps.{Does, Keeps}
 use Rattle.cq_master_process.specs.Turns.{IsLeft}
@@ -35,11 +35,11 @@ at-both old out before after puts told behind none is = at-end out before after 
 
 -- ---- turns
 
-pub takes-turns : (p q : MasterProcess) (waits : Option ℕ) (old new : List ℕ) → PutsInOrder p q old new → IsLeft q.core (numbers_of q.put) waits → TakesTurns p q waits old new
+pub takes-turns : (p q : MasterProcess) (waits : Option ℕ) (old new : List ℕ) → PutsInOrder p q old new → IsLeft q.core (put_of q.links) waits → TakesTurns p q waits old new
 takes-turns p q waits old new h left = record {
-  told = h.1.told;
-  turns = record { messages = h.1.messages; puts = h.1.puts; most = h.0; order = h.1.order; left = left };
-  bytes = h.1.bytes;
+  told = h.told;
+  turns = record { messages = h.messages; puts = h.puts; most = h.most; order = h.order; thrown = h.thrown; left = left };
+  bytes = h.bytes;
 }
 
 pub tells-turns : (p q : MasterProcess) (waits : Option ℕ) (old out before after : List ℕ) → TakesTurns p q waits old out → before ≡ [] → after ≡ before ++ told_behind waits → TellsTurns p q old (out ++ after)

@@ -1,5 +1,5 @@
 -- What the calls of the core are, as actions.
-use Rattle.std.proofs.Common.{◌≡◌, ◌∙◌, ℕ, ap, sym, refl, subst, cond, List, [], ◌∷◌, ◌++◌, drop, map, Bool, true, false, Some, None}
+use Rattle.std.proofs.Common.{◌≡◌, ◌∙◌, ℕ, ap, sym, refl, subst, cond, List, [], ◌∷◌, ◌++◌, drop, map, Bool, true, false, None}
 use Rattle.cq_base.specs.declared.party.Party.{Party}
 use Rattle.cq_base.specs.declared.party.Party.TheVariants as parties
 use Rattle.cq_chain.specs.declared.master.Master as rust_master
@@ -8,8 +8,8 @@ use Rattle.cq_chain.specs.Masters.{Master, hears, detected, joined, refusal_of_d
 use Rattle.cq_chain.specs.Messages.{Message}
 use Rattle.cq_chain.specs.Parties.{same}
 use Rattle.cq_chain.specs.Stands as chain
-use Rattle.cq_chain.specs.Stands.{IsFirst, KeepsMaster, MasterStandsFor, Means, drained}
-use Rattle.cq_events.specs.Actions.{Action, Put, Took, Detected, Joined, CoreState, IsMasterAs}
+use Rattle.cq_chain.specs.Stands.{KeepsMaster, MasterStandsFor, Means, drained}
+use Rattle.cq_events.specs.Actions.{Put, Took, Detected, Joined, CoreState, IsMasterAs}
 use Rattle.cq_events.specs.Actions as actions
 use Rattle.cq_events.specs.Acts.{MasterActs}
 use Rattle.cq_events.proofs.Parties.{same-true}

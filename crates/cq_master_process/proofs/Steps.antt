@@ -1,5 +1,5 @@
 -- What a command makes the process do by itself.
-use Rattle.std.proofs.Common.{◌≡◌, ◌∙◌, ℕ, ◌+◌, ◌==◌, ap, sym, refl, cond, List, Bool, true, false, Result, Ok, Err, inl, inr, ◌⊎◌}
+use Rattle.std.proofs.Common.{◌≡◌, ◌∙◌, ℕ, ◌+◌, ◌==◌, ap, sym, cond, List, Bool, true, false, Result, Ok, Err, inl, inr, ◌⊎◌}
 use Rattle.std.specs.Prelude.{OnOk, OnErr, IfErr}
 use Rattle.cq_chain.specs.declared.message.Message as rust
 use Rattle.cq_chain_wire.specs.Limits.{IsMessage}
@@ -7,7 +7,7 @@ use Rattle.cq_chain_wire.specs.Reading.{message_at}
 use Rattle.cq_master_process.specs.declared.process.MasterProcess.{MasterProcess}
 use Rattle.cq_master_process.specs.declared.process.TheConstants.{NO_MEMORY}
 use Rattle.cq_master_process.specs.Cores.{piece_of}
-use Rattle.cq_master_process.specs.Numbers.{are_in, counted, numbers_of}
+use Rattle.cq_master_process.specs.Links.{counted, gone_of, taken_of}
 use Rattle.cq_master_process.specs.Refusing.{IsNoMessage, RefusesTake}
 use Rattle.cq_master_process.specs.Steps.{Keeps, Takes, TakesMessage, is_in_turn}
 use Rattle.cq_wire.specs.declared.fault.ReadFault.{ReadFault}
@@ -55,8 +55,8 @@ refuses-unread fault p from number piece code turn h is = inr (turn, unread faul
 
 -- ---- whose turn it is
 
-pub turn-gone : (p : MasterProcess) (from number : ℕ) → are_in p.gone.keys from ≡ true → false ≡ is_in_turn p from number
-turn-gone p from number gone = sym (ap (λ b. cond b false (number == numbers_of p.taken from + 1)) gone)
+pub turn-gone : (p : MasterProcess) (from number : ℕ) → gone_of p.links from ≡ true → false ≡ is_in_turn p from number
+turn-gone p from number gone = sym (ap (λ b. cond b false (number == taken_of p.links from + 1)) gone)
 
-pub turn-here : (p : MasterProcess) (from number : ℕ) (is : Bool) → are_in p.gone.keys from ≡ false → is ≡ (number == numbers_of p.taken from + 1) → is ≡ is_in_turn p from number
-turn-here p from number is here h = h ∙ sym (ap (λ b. cond b false (number == numbers_of p.taken from + 1)) here)
+pub turn-here : (p : MasterProcess) (from number : ℕ) (is : Bool) → gone_of p.links from ≡ false → is ≡ (number == taken_of p.links from + 1) → is ≡ is_in_turn p from number
+turn-here p from number is here h = h ∙ sym (ap (λ b. cond b false (number == taken_of p.links from + 1)) here)

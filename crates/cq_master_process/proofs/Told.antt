@@ -1,7 +1,6 @@
 -- What is told of a message, by what became of it.
-use Rattle.std.proofs.Common.{◌≡◌, ◌∙◌, ℕ, ◌+◌, ◌≤◌, ap, sym, refl, subst, List, [], ◌∷◌, ◌++◌, length, take, length-append, append_assoc, Some, arith}
+use Rattle.std.proofs.Common.{◌≡◌, ◌∙◌, ℕ, ◌+◌, ◌≤◌, ap, sym, List, [], ◌∷◌, ◌++◌, length, take, length-append, Some, arith}
 use Rattle.std.proofs.Math.Seq.{take-append_seam}
-use Rattle.cq_base.specs.declared.party.Party.{Party}
 use Rattle.cq_base.specs.declared.party.Party.TheVariants as parties
 use Rattle.cq_chain.specs.declared.master.Master as rust_master
 use Rattle.cq_chain.specs.declared.message.Message as rust
@@ -36,6 +35,12 @@ on-no-memory what.Put A h = tt
 on-no-memory what.Nothing A h = tt
 on-no-memory what.NoMemory A h = h
 on-no-memory what.Untellable A h = tt
+
+pub no-memory-never : (w : Putting) (A : Type 0) → OnNoMemory w ⊥ → OnNoMemory w A
+no-memory-never what.Put A h = tt
+no-memory-never what.Nothing A h = tt
+no-memory-never what.NoMemory A h = absurd h
+no-memory-never what.Untellable A h = tt
 
 pub on-idle : (w : Putting) (A B : Type 0) → (A → B) → OnIdle w A → OnIdle w B
 on-idle what.Put A B f h = tt

@@ -1,22 +1,17 @@
 -- The turns of servers, in the order of their numbers.
-use Rattle.std.proofs.Common.{◌≡◌, ◌∙◌, ℕ, ◌+◌, ◌-◌, ◌^◌, ◌<◌, ◌≤◌, ap, sym, refl, subst, List, [], Bool, true, false, Option, Some, None, inl, inr, ◌⊎◌, arith}
+use Rattle.std.proofs.Common.{◌≡◌, ◌∙◌, ℕ, ◌+◌, ◌-◌, ◌^◌, ◌<◌, ◌≤◌, sym, refl, subst, List, true, false, Option, Some, None, inl, inr, ◌⊎◌, arith}
 use Rattle.std.specs.Prelude.{nat_lt}
 use Rattle.std.proofs.lemmas.Bool.{cases_Bool, true≢false}
 use Rattle.cq_base.specs.declared.party.Party.{Party}
-use Rattle.cq_base.specs.declared.party.Party.TheVariants.{Server}
 use Rattle.cq_chain.specs.declared.master.Master as rust_master
 use Rattle.cq_chain.specs.Masters.{Master}
 use Rattle.cq_chain.specs.Messages.{Message}
 use Rattle.cq_chain.specs.Next.{IsNext, is_above}
 use Rattle.cq_chain.specs.Stands.{MasterStandsFor}
-use Rattle.cq_master_process.specs.Turns.{IsDone, IsFirstLeft, IsLeft}
+use Rattle.cq_master_process.specs.Turns.{HasNoMore, IsLeft}
+use Rattle.cq_master_process.specs.within.Behind.{last_of}
 use Rattle.cq_process.specs.declared.outgoing.TheConstants.{LINK_LIMIT}
 use Rattle.cq_wire.specs.Limits.{IsServer}
-
--- the number of a server; 0 of none
-abbrev pub last_of : Option ℕ → ℕ
-last_of None = 0
-last_of (Some id) = id
 
 -- how many numbers are left above that one
 abbrev pub left_above : Option ℕ → ℕ
@@ -33,7 +28,7 @@ fewer-above (Some other) id h fits = let few = fits.1 in let more : other < id =
 
 -- each server up to that one is done
 abbrev pub AreDone : (Party → List Message) → (ℕ → ℕ) → Option ℕ → Type 0
-AreDone outbox numbers after = (id : ℕ) → is_above after id ≡ false → IsDone outbox numbers id
+AreDone outbox numbers after = (id : ℕ) → is_above after id ≡ false → HasNoMore outbox numbers id
 
 -- of whatever the core stands for
 abbrev pub AreDoneUpTo : rust_master.Master → (ℕ → ℕ) → Option ℕ → Type 0
@@ -43,16 +38,16 @@ pub none-done : (core : rust_master.Master) (numbers : ℕ → ℕ) → AreDoneU
 none-done core numbers m outbox h id below = absurd (true≢false below)
 
 -- a server below the next one is done
-below-done : (outbox : Party → List Message) (numbers : ℕ → ℕ) (after : Option ℕ) (next : ℕ) → AreDone outbox numbers after → IsNext after outbox (Some next) → (id : ℕ) → id < next → IsDone outbox numbers id
+below-done : (outbox : Party → List Message) (numbers : ℕ → ℕ) (after : Option ℕ) (next : ℕ) → AreDone outbox numbers after → IsNext after outbox (Some next) → (id : ℕ) → id < next → HasNoMore outbox numbers id
 below-done outbox numbers after next done is id below = elim (cases_Bool (is_above after id)) [
   | inl above ↦ inl (is.1.1 id above below)
   | inr behind ↦ done id behind
 ]
 
-not-above : (next id : ℕ) → nat_lt next id ≡ false → id ≤ next
+pub not-above : (next id : ℕ) → nat_lt next id ≡ false → id ≤ next
 not-above next id h = grind arith
 
-at-most : (id next : ℕ) → id ≤ next → (id < next) ⊎ (id ≡ next)
+pub at-most : (id next : ℕ) → id ≤ next → (id < next) ⊎ (id ≡ next)
 at-most id next h = elim (cases_Bool (nat_lt id next)) [
   | inl less ↦ inl (grind arith)
   | inr more ↦ inr (grind arith)
@@ -74,7 +69,7 @@ pub first-is-left : (core : rust_master.Master) (numbers : ℕ → ℕ) (after :
     → IsLeft core numbers (Some next)
 first-is-left core numbers after next done is unspent m outbox h = ((is m outbox h).1.0, (unspent, below-done outbox numbers after next (done m outbox h) (is m outbox h)))
 
-all-done : (outbox : Party → List Message) (numbers : ℕ → ℕ) (after : Option ℕ) → AreDone outbox numbers after → IsNext after outbox None → (id : ℕ) → IsDone outbox numbers id
+all-done : (outbox : Party → List Message) (numbers : ℕ → ℕ) (after : Option ℕ) → AreDone outbox numbers after → IsNext after outbox None → (id : ℕ) → HasNoMore outbox numbers id
 all-done outbox numbers after done is id = elim (cases_Bool (is_above after id)) [
   | inl above ↦ inl (is id above)
   | inr behind ↦ done id behind

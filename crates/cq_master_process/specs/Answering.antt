@@ -8,7 +8,7 @@ use Rattle.cq_frames.specs.declared.response.Response.TheVariants.{Refused, Unre
 use Rattle.cq_frames.specs.Reading.{command_at}
 use Rattle.cq_master_process.specs.declared.process.MasterProcess.{MasterProcess}
 use Rattle.cq_master_process.specs.declared.process.TheConstants.{NO_MEMORY}
-use Rattle.cq_master_process.specs.Numbers.{are_in, numbers_of}
+use Rattle.cq_master_process.specs.Links.{gone_of, put_of, taken_of}
 use Rattle.cq_master_process.specs.Refusing.{Refuses}
 use Rattle.cq_master_process.specs.Steps.{Does, Keeps}
 use Rattle.cq_master_process.specs.Turns.{HasTurns}
@@ -21,9 +21,9 @@ use Rattle.cq_wire.specs.Reading.{whole_at}
 -- A process that has done nothing keeps the master of a first chain of so many servers.
 pub record IsNew (p : MasterProcess) (size : ℕ) : Type 0 where
   pub core : MasterStandsFor p.core (first_master size) (λ _. [])
-  pub taken : (id : ℕ) → numbers_of p.taken id ≡ 0
-  pub put : (id : ℕ) → numbers_of p.put id ≡ 0
-  pub gone : (id : ℕ) → are_in p.gone.keys id ≡ false
+  pub taken : (id : ℕ) → taken_of p.links id ≡ 0
+  pub put : (id : ℕ) → put_of p.links id ≡ 0
+  pub gone : (id : ℕ) → gone_of p.links id ≡ false
 
 -- what is told behind the turns: for which server something still waits, and that the command was heard
 abbrev pub told_behind : Option ℕ → List ℕ

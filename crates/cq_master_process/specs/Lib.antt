@@ -1,8 +1,9 @@
-pub mod Numbers
+pub mod Links
 pub mod Cores
 pub mod Steps
 pub mod Refusing
 pub mod Putting
 pub mod Turns
 pub mod Answering
+pub mod Laws
 pub mod within

@@ -1,8 +1,10 @@
 -- Messages that are put for servers, and what is told of them.
-use Rattle.std.specs.Prelude.{◌≡◌, ℕ, ◌+◌, ◌<◌, ◌≤◌, List, [], ◌∷◌, ◌++◌, length, map, Bool, true, false, ⊤}
+use Rattle.std.specs.Prelude.{◌≡◌, ℕ, ◌+◌, ◌<◌, ◌≤◌, List, [], ◌∷◌, ◌++◌, map, Bool, true, false, ⊤}
 use Rattle.cq_base.specs.declared.party.Party.{Party}
 use Rattle.cq_base.specs.declared.party.Party.TheVariants as parties
 use Rattle.cq_chain.specs.declared.message.Message as rust
+use Rattle.cq_chain.specs.Messages.{Message}
+use Rattle.cq_chain.specs.Stands.{drained}
 use Rattle.cq_chain_wire.specs.Limits.{IsMessage}
 use Rattle.cq_events.specs.Actions.{Action, Put}
 use Rattle.cq_frames.specs.declared.response.Response.{Response}
@@ -10,7 +12,7 @@ use Rattle.cq_frames.specs.declared.response.Response.TheVariants as responses
 use Rattle.cq_frames.specs.Limits.{IsResponse}
 use Rattle.cq_master_process.specs.declared.process.MasterProcess.{MasterProcess}
 use Rattle.cq_master_process.specs.Cores.{ActsAll, piece_of}
-use Rattle.cq_master_process.specs.Numbers.{are_in, counted, numbers_of}
+use Rattle.cq_master_process.specs.Links.{counted, gone_of, put_of, taken_of}
 use Rattle.cq_process.specs.declared.outgoing.TheConstants.{LINK_LIMIT}
 use Rattle.cq_process_frames.specs.Frames.{frame}
 
@@ -62,11 +64,16 @@ abbrev pub AreInOrder : ℕ → List Sent → ℕ → Type 0
 AreInOrder least [] most = least ≤ most
 AreInOrder least (x ∷ xs) most = (least ≤ x.to) × AreInOrder x.to xs most
 
+-- what still waits for each party behind them
+abbrev pub left_of : (Party → List Message) → List Sent → Party → List Message
+left_of outbox [] = outbox
+left_of outbox (x ∷ xs) = left_of (drained outbox (parties.Server x.to)) xs
+
 -- Messages are put one after another, and told.
 pub record Puts (p q : MasterProcess) (messages : List Sent) (told : List ℕ) : Type 0 where
   pub done : ActsAll (map action_of messages) p.core q.core
-  pub put : numbers_of q.put ≡ counted_all (numbers_of p.put) messages
-  pub is : told ≡ told_all (are_in p.gone.keys) (numbers_of p.put) messages
-  pub fits : AllFit (are_in p.gone.keys) (numbers_of p.put) messages
-  pub taken : numbers_of q.taken ≡ numbers_of p.taken
-  pub gone : are_in q.gone.keys ≡ are_in p.gone.keys
+  pub put : put_of q.links ≡ counted_all (put_of p.links) messages
+  pub is : told ≡ told_all (gone_of p.links) (put_of p.links) messages
+  pub fits : AllFit (gone_of p.links) (put_of p.links) messages
+  pub taken : taken_of q.links ≡ taken_of p.links
+  pub gone : gone_of q.links ≡ gone_of p.links

@@ -1,5 +1,5 @@
 -- Why a command is refused, and under which number.
-use Rattle.std.specs.Prelude.{◌≡◌, ℕ, List, Option, Bool, true, false, Err, ◌⊎◌}
+use Rattle.std.specs.Prelude.{◌≡◌, ℕ, List, Option, true, false, Err, ◌⊎◌}
 use Rattle.cq_base.specs.declared.party.Party.{Party}
 use Rattle.cq_base.specs.declared.party.Party.TheVariants as parties
 use Rattle.cq_chain.specs.declared.fault.WorldFault.{WorldFault}

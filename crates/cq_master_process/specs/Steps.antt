@@ -10,32 +10,32 @@ use Rattle.cq_frames.specs.declared.command.Command.{Command}
 use Rattle.cq_frames.specs.declared.command.Command.TheVariants as commands
 use Rattle.cq_master_process.specs.declared.process.MasterProcess.{MasterProcess}
 use Rattle.cq_master_process.specs.Cores.{Acts, piece_of}
-use Rattle.cq_master_process.specs.Numbers.{are_in, counted, numbers_of, with_one}
+use Rattle.cq_master_process.specs.Links.{counted, gone_of, put_of, taken_of, with_one}
 
 -- Nothing changes: the core stands for all that it stood for.
 pub record Keeps (p q : MasterProcess) : Type 0 where
   pub core : KeepsMaster p.core q.core
-  pub taken : numbers_of q.taken ≡ numbers_of p.taken
-  pub put : numbers_of q.put ≡ numbers_of p.put
-  pub gone : are_in q.gone.keys ≡ are_in p.gone.keys
+  pub taken : taken_of q.links ≡ taken_of p.links
+  pub put : put_of q.links ≡ put_of p.links
+  pub gone : gone_of q.links ≡ gone_of p.links
 
 -- The core does that, and nothing else changes.
 pub record Orders (action : Action) (p q : MasterProcess) : Type 0 where
   pub done : Acts action p.core q.core
-  pub taken : numbers_of q.taken ≡ numbers_of p.taken
-  pub put : numbers_of q.put ≡ numbers_of p.put
-  pub gone : are_in q.gone.keys ≡ are_in p.gone.keys
+  pub taken : taken_of q.links ≡ taken_of p.links
+  pub put : put_of q.links ≡ put_of p.links
+  pub gone : gone_of q.links ≡ gone_of p.links
 
 -- whether the message of that number is the next one of a server: it isn't gone, and the number is one above the last
 abbrev pub is_in_turn : MasterProcess → ℕ → ℕ → Bool
-is_in_turn p from number = if are_in p.gone.keys from then false else number == numbers_of p.taken from + 1
+is_in_turn p from number = if gone_of p.links from then false else number == taken_of p.links from + 1
 
 -- The core takes a message of a server, which counts.
 pub record TakesMessage (p q : MasterProcess) (from : ℕ) (x : rust.Message) : Type 0 where
   pub done : Acts (Took (parties.Server from) x) p.core q.core
-  pub taken : numbers_of q.taken ≡ counted (numbers_of p.taken) from
-  pub put : numbers_of q.put ≡ numbers_of p.put
-  pub gone : are_in q.gone.keys ≡ are_in p.gone.keys
+  pub taken : taken_of q.links ≡ counted (taken_of p.links) from
+  pub put : put_of q.links ≡ put_of p.links
+  pub gone : gone_of q.links ≡ gone_of p.links
 
 -- The piece is a whole message, the next one of the server, and the core takes it.
 pub record Takes (p q : MasterProcess) (from number : ℕ) (piece : List ℕ) : Type 0 where
@@ -48,9 +48,9 @@ pub record Takes (p q : MasterProcess) (from number : ℕ) (piece : List ℕ) : 
 -- A server more is gone, and nothing else changes.
 pub record Forgets (p q : MasterProcess) (server : ℕ) : Type 0 where
   pub core : KeepsMaster p.core q.core
-  pub taken : numbers_of q.taken ≡ numbers_of p.taken
-  pub put : numbers_of q.put ≡ numbers_of p.put
-  pub gone : are_in q.gone.keys ≡ with_one (are_in p.gone.keys) server
+  pub taken : taken_of q.links ≡ taken_of p.links
+  pub put : put_of q.links ≡ put_of p.links
+  pub gone : gone_of q.links ≡ with_one (gone_of p.links) server
 
 -- It takes messages of servers alone.
 abbrev pub TakesFrom : MasterProcess → MasterProcess → Party → ℕ → List ℕ → Type 0

@@ -1,3 +1,4 @@
 -- What the clauses of private functions cite. Nobody who calls this crate has to read it.
 pub mod Behind
 pub mod Telling
+pub mod Writing

@@ -1,7 +1,7 @@
 //! What a process that keeps the master has: its core, and what it knows of the links to and from servers.
 ghost use Rattle.std.specs.Prelude.{◌≡◌, ◌<◌, true, IfOk};
 ghost use Rattle.cq_master_process.specs.Answering.{IsNew};
-ghost use Rattle.cq_master_process.specs.Numbers.{are_in, numbers_of};
+ghost use Rattle.cq_master_process.specs.Links.{taken_of};
 ghost use Rattle.cq_master_process.specs.Steps.{is_in_turn};
 ghost use Rattle.cq_process.specs.declared.outgoing.TheConstants.{LINK_LIMIT};
 
@@ -10,30 +10,27 @@ mod put;
 mod step;
 mod turns;
 
-use crate::numbers::Numbers;
+use crate::links::Links;
 pub use answer::ANSWER_ROOM;
 use cq_base::{ChainSize, NoMemory, ServerId};
 use cq_chain::Master;
-use indexmap::IndexSet;
 use std::alloc::Global;
 
 /// The number under which a command is refused for which there is no memory.
 pub const NO_MEMORY: u32 = 20;
 
-/// A message can't be told at all, and the process has to end. No message of a master is so long, or a snapshot, though the types of
-/// messages don't say so.
+/// A message can't be told at all, and the process has to end. No message of a master is so long, or a snapshot, though the types
+/// of messages don't say so.
 #[derive(Clone, Copy, Debug, PartialEq, Eq)]
 pub struct Unanswered;
 
-/// The master of a chain, and for each server the number of the last message that was taken from it and of the last one that was
-/// put for it, and the servers that are gone. They take memory for no more servers than were named.
+/// The master of a chain, and for each server that was named the number of the last message that was taken from it and of the last
+/// one that was put for it, and whether it is gone.
 #[derive(Drop)]
 pub struct MasterProcess {
     alloc: Global,
     core: Master,
-    taken: Numbers,
-    put: Numbers,
-    gone: IndexSet<ServerId>,
+    links: Links,
 }
 
 impl MasterProcess {
@@ -46,29 +43,20 @@ impl MasterProcess {
             Ok(core) => Ok(MasterProcess {
                 alloc,
                 core,
-                taken: Numbers::new(alloc),
-                put: Numbers::new(alloc),
-                gone: IndexSet::new(alloc),
+                links: Links::new(alloc),
             }),
             Err(_) => Err(NoMemory),
         }
     }
 
-    /// Whether that server is gone: O(1).
-    fn is_gone(&self, server: ServerId) -> bool
-        ensures { result ≡ are_in self.now.gone.keys server }
-    {
-        self.gone.contains(&server)
-    }
-
     /// Whether the message of that number is the next one of that server: O(1).
     fn is_in_turn(&self, from: ServerId, number: u64) -> bool
         ensures is { result ≡ is_in_turn self.now from number }
-        ensures room { result ≡ true → numbers_of self.now.taken from < LINK_LIMIT }
+        ensures room { result ≡ true → taken_of self.now.links from < LINK_LIMIT }
     {
-        if self.is_gone(from) {
+        if self.links.is_gone(from) {
             return false;
         }
-        self.taken.is_next(from, number)
+        self.links.is_next(from, number)
     }
 }

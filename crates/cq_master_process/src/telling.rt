@@ -1,5 +1,5 @@
 //! A message of the master, told as a frame.
-ghost use Rattle.std.specs.Prelude.{◌≡◌, ◌+◌, ◌<◌, ◌≤◌, ◌++◌, List, ℕ, length, OnOk, OnErr};
+ghost use Rattle.std.specs.Prelude.{◌≡◌, ◌+◌, ◌<◌, ◌≤◌, ◌++◌, List, ℕ, length};
 ghost use Rattle.cq_base.specs.declared.party.Party as rust_party;
 ghost use Rattle.cq_base.specs.declared.party.Party.TheVariants as parties;
 ghost use Rattle.cq_chain_wire.specs.Limits.{IsMessage, IsPlain};

@@ -2,7 +2,7 @@
 ghost use Rattle.std.specs.Prelude.{◌≡◌, ◌<◌, true, OnOk, OnErr, IfErr};
 ghost use Rattle.cq_chain.specs.Masters.{refusal_of_detection, refusal_of_join};
 ghost use Rattle.cq_events.specs.Actions.{Detected, Joined};
-ghost use Rattle.cq_master_process.specs.Numbers.{is_open, numbers_of};
+ghost use Rattle.cq_master_process.specs.Links.{is_open, taken_of};
 ghost use Rattle.cq_master_process.specs.Refusing.{Refuses, RefusesFrom, RefusesOrder, RefusesTake};
 ghost use Rattle.cq_master_process.specs.Steps.{Does, Forgets, Keeps, Orders, Takes, TakesFrom, TakesMessage, is_in_turn};
 ghost use Rattle.cq_process.specs.declared.outgoing.TheConstants.{LINK_LIMIT};
@@ -17,15 +17,15 @@ use cq_process::TakeFault;
 impl MasterProcess {
     /// The core takes a message of that server, for whose number there is room.
     fn take_counted(&mut self, from: ServerId, message: &Message) -> Result<(), u32>
-        requires open { is_open self.old.taken from ≡ true }
-        requires room { numbers_of self.old.taken from < LINK_LIMIT }
+        requires open { is_open self.old.links from ≡ true }
+        requires room { taken_of self.old.links from < LINK_LIMIT }
         ensures took { OnOk result (TakesMessage self.old self.new from message.now) }
         ensures refused { IfErr result (λ code. code ≡ NO_MEMORY) }
         ensures same { OnErr result (Keeps self.old self.new) }
     {
         match self.core.take(from, message) {
             Ok(()) => {
-                self.taken.count(from);
+                self.links.count_taken(from);
                 Ok(())
             }
             Err(_) => Err(NO_MEMORY),
@@ -34,12 +34,12 @@ impl MasterProcess {
 
     /// The core takes a message of that server. Where there is no memory it can be given again.
     fn take_message(&mut self, from: ServerId, message: &Message) -> Result<(), u32>
-        requires { numbers_of self.old.taken from < LINK_LIMIT }
+        requires { taken_of self.old.links from < LINK_LIMIT }
         ensures took { OnOk result (TakesMessage self.old self.new from message.now) }
         ensures refused { IfErr result (λ code. code ≡ NO_MEMORY) }
         ensures same { OnErr result (Keeps self.old self.new) }
     {
-        match self.taken.open(from) {
+        match self.links.open(from) {
             Ok(()) => self.take_counted(from, message),
             Err(_) => Err(NO_MEMORY),
         }
@@ -48,7 +48,7 @@ impl MasterProcess {
     /// The core takes the message that the piece is, which is in its turn.
     fn take_piece(&mut self, from: ServerId, number: u64, piece: &[u8]) -> Result<(), u32>
         requires in_turn { is_in_turn self.old from number ≡ true }
-        requires room { numbers_of self.old.taken from < LINK_LIMIT }
+        requires room { taken_of self.old.links from < LINK_LIMIT }
         ensures took { OnOk result (Takes self.old self.new from number piece.now) }
         ensures refused { IfErr result (λ code. RefusesTake self.old from number piece.now code) }
         ensures same { OnErr result (Keeps self.old self.new) }
@@ -108,14 +108,18 @@ impl MasterProcess {
         }
     }
 
-    /// That server is gone for good. What waits for it is put and thrown away in its turns.
+    /// That server is gone for good. What waits for it is put and thrown away in its turns. The room for its number is made before,
+    /// so these want no memory.
     fn forget(&mut self, server: ServerId) -> Result<(), u32>
         ensures done { OnOk result (Forgets self.old self.new server) }
         ensures refused { IfErr result (λ code. code ≡ NO_MEMORY) }
         ensures same { OnErr result (Keeps self.old self.new) }
     {
-        match self.gone.insert(server) {
-            Ok(_) => Ok(()),
+        match self.links.open(server) {
+            Ok(()) => {
+                self.links.note_gone(server);
+                Ok(())
+            }
             Err(_) => Err(NO_MEMORY),
         }
     }

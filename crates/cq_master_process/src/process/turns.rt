@@ -6,7 +6,7 @@ ghost use Rattle.cq_chain.specs.Masters as masters;
 ghost use Rattle.cq_chain.specs.Messages as sent;
 ghost use Rattle.cq_chain.specs.Next.{IsNext, is_above};
 ghost use Rattle.cq_chain.specs.Stands.{MasterStandsFor};
-ghost use Rattle.cq_master_process.specs.Numbers.{numbers_of};
+ghost use Rattle.cq_master_process.specs.Links.{put_of};
 ghost use Rattle.cq_master_process.specs.Turns.{IsLeft};
 ghost use Rattle.cq_master_process.specs.within.Behind.{PutsInOrder, TakesTurns};
 ghost use Rattle.cq_wire.specs.Limits.{IsServer};
@@ -62,11 +62,11 @@ impl MasterProcess {
     /// The first server for which something waits, as long as its link has a number left: O(servers, for each for which something
     /// waits).
     fn first_left(&self) -> Option<ServerId>
-        ensures { IsLeft self.now.core (numbers_of self.now.put) result }
+        ensures { IsLeft self.now.core (put_of self.now.links) result }
     {
         let mut after = None;
         while let Some(id) = next_behind(&self.core, &after) {
-            if self.put.last(id) < LINK_LIMIT {
+            if self.links.last_put(id) < LINK_LIMIT {
                 return Some(id);
             }
             after = Some(id);

@@ -1,5 +1,5 @@
 -- A frame, or what was there before the front.
-use Rattle.std.proofs.Common.{◌∙◌, ap, length, arith}
+use Rattle.std.proofs.Common.{◌∙◌}
 use Rattle.cq_master_process.proofs.Told.{cut-off}
 use Rattle.cq_master_process.proofs.telling.seal_or_cut.Goals as goal
 

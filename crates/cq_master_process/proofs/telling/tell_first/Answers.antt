@@ -1,5 +1,5 @@
 -- The first message, if one waits.
-use Rattle.cq_master_process.specs.within.Telling.{IsEmptyFor, IsFirstFor, WaitsFor}
+use Rattle.cq_master_process.specs.within.Telling.{IsEmptyFor, WaitsFor}
 use Rattle.cq_master_process.proofs.Told.{first-waits, on-no-memory, on-nothing, tells-first}
 use Rattle.cq_master_process.proofs.telling.tell_first.Goals as goal
 

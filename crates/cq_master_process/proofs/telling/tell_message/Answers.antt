@@ -1,5 +1,5 @@
 -- The front is there, and the message comes behind it.
-use Rattle.std.proofs.Common.{◌≡◌, ◌≤◌, ◌+◌, ◌∙◌, ◌++◌, ap, sym, length, length-append}
+use Rattle.std.proofs.Common.{◌≤◌, ◌+◌, ◌∙◌, ap, sym, length, length-append}
 use Rattle.cq_base.specs.declared.party.Party.TheVariants.{Server}
 use Rattle.cq_chain_wire.specs.Limits.{IsMessage}
 use Rattle.cq_frames.specs.declared.piece.TheConstants.{PIECE_LIMIT}

@@ -1,5 +1,5 @@
 -- The bytes are a command, or of none.
-use Rattle.std.proofs.Common.{◌≡◌, ◌∙◌, ap, length, arith}
+use Rattle.std.proofs.Common.{ap, length, arith}
 use Rattle.cq_master_process.proofs.Answered.{fault-frame, read-frame, same-front}
 use Rattle.cq_master_process.proofs.process.MasterProcess.answer_bytes.Goals as goal
 

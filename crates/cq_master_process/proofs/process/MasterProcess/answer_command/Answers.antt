@@ -1,5 +1,5 @@
 -- It is done, or refused.
-use Rattle.std.proofs.Common.{◌≡◌, ◌∙◌, ap, length, arith}
+use Rattle.std.proofs.Common.{ap, length, arith}
 use Rattle.cq_master_process.proofs.Answered.{done-command, refused-command, same-front}
 use Rattle.cq_master_process.proofs.process.MasterProcess.answer_command.Goals as goal
 

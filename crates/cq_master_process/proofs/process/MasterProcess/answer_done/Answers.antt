@@ -1,5 +1,5 @@
 -- The turns, and what is told behind them.
-use Rattle.std.proofs.Common.{◌≡◌, ◌∙◌, ap, length, arith}
+use Rattle.std.proofs.Common.{ap, length, arith}
 use Rattle.cq_master_process.proofs.Answered.{tells-turns}
 use Rattle.cq_master_process.proofs.process.MasterProcess.answer_done.Goals as goal
 

@@ -1,5 +1,5 @@
 -- A frame that was too long is unread.
-use Rattle.std.proofs.Common.{◌≡◌, ◌∙◌, ap, length, arith}
+use Rattle.std.proofs.Common.{◌∙◌, ap, length, arith}
 use Rattle.cq_master_process.proofs.Answered.{long-frame, same-front}
 use Rattle.cq_master_process.proofs.process.MasterProcess.answer_frame.Goals as goal
 

@@ -6,9 +6,9 @@ use Rattle.cq_master_process.proofs.process.MasterProcess.take_counted.Goals as 
 pub returns-in-Ok-clause-took : goal.returns-in-Ok-clause-took
 returns-in-Ok-clause-took c = record {
   done = took-alone c.args.self.now.core c.take.new.self c.args.from c.args.message.now c.in-Ok.ensures.ok;
-  taken = c.count.ensures.counts;
-  put = refl;
-  gone = refl;
+  taken = c.count_taken.ensures.taken;
+  put = c.count_taken.ensures.put;
+  gone = c.count_taken.ensures.gone;
 }
 
 pub returns-in-Err-clause-same : goal.returns-in-Err-clause-same
