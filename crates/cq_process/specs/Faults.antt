@@ -5,12 +5,14 @@ use Rattle.cq_process.specs.declared.incoming.TakeFault.{TakeFault}
 use Rattle.cq_process.specs.declared.incoming.TakeFault.TheVariants.{NotNext, Unread, Refused}
 use Rattle.cq_process.specs.declared.outgoing.PutFault.{PutFault}
 use Rattle.cq_process.specs.declared.outgoing.PutFault.TheVariants.{NumbersSpent, NoMemory}
+use Rattle.cq_wire.specs.declared.fault.ReadFault.TheVariants as read
 use Rattle.cq_wire.specs.Faults as wire
 
--- why nothing was taken
+-- why nothing was taken; where there was no memory for a piece, its message begins again, and that has a number of its own
 abbrev pub take_code : TakeFault → ℕ
 take_code NotNext = 45
-take_code (Unread fault) = wire.code_of fault
+take_code (Unread read.NoMemory) = 48
+take_code (Unread (read.Bad fault)) = wire.wire_code fault
 take_code (Refused fault) = chain.code_of fault
 
 -- why nothing was written

@@ -45,7 +45,7 @@ pub enum Taken {
 pub enum TakeFault {
     #[error("the message isn't the next one of its link")]
     NotNext,
-    /// The bytes are no piece that may come here, or there was no memory to read them.
+    /// The bytes are no piece that may come here, or there was no memory to read them. Either way the message begins again.
     #[error("{0}")]
     Unread(ReadFault),
     /// The message is whole, and the core didn't take it.
@@ -54,13 +54,15 @@ pub enum TakeFault {
 }
 
 impl TakeFault {
-    /// The number under which the fault is told.
+    /// The number under which the fault is told. Want of memory for a piece has one of its own (48), since all pieces of its message
+    /// have to come again then, and not that piece alone.
     pub fn code(&self) -> u16
         ensures { result ≡ take_code self.now }
     {
         match self {
             TakeFault::NotNext => 45,
-            TakeFault::Unread(fault) => fault.code(),
+            TakeFault::Unread(ReadFault::NoMemory) => 48,
+            TakeFault::Unread(ReadFault::Bad(fault)) => fault.code(),
             TakeFault::Refused(fault) => fault.code(),
         }
     }
