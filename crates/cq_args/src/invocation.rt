@@ -589,6 +589,6 @@ pub fn invocation_of<'a, S: AsStr>(alloc: Global, args: &'a [S]) -> Result<Invoc
     }
     Err(program.error(
         ErrorKind::InvalidValue,
-        "a number is missing or out of its range, '--journal FILE' is missing, or a server needs one of '--first SIZE' and '--joining'",
+        "a number is missing or out of its range, or '--journal FILE' is missing, or a server has not just one of '--first SIZE' and '--joining'",
     )?)
 }

@@ -2,3 +2,4 @@ mod Examples
 mod Told
 mod LiveTold
 mod KeptTold
+mod ProcessTold

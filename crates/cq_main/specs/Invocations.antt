@@ -1,14 +1,22 @@
 -- What the program has done when it has carried out what was asked for.
-use Rattle.std.specs.Prelude.{ℕ, Bool, List, Option}
+use Rattle.std.specs.Prelude.{ℕ, ◌≤◌, Bool, List, Option, ⊤}
+use Rattle.cq_chain.specs.Servers.{first_member, joining}
 use Rattle.cq_main.specs.KeptOutcomes.{RunsKept}
 use Rattle.cq_main.specs.LiveOutcomes.{RunsLive}
 use Rattle.cq_main.specs.Outcomes.{RunsBy}
+use Rattle.cq_main.specs.ProcessOutcomes.{RunsProcess}
+use Rattle.cq_processes.specs.Keeping.{KeepsMaster, KeepsServer}
 use Rattle.cq_script.specs.Replays.{Headlines, Replays}
 use Rattle.cq_script.specs.Sessions.{SessionHeadlines, Sessions}
 use Rattle.cq_args.specs.declared.invocation.Invocation.{Invocation}
-use Rattle.cq_args.specs.declared.invocation.Invocation.TheVariants.{Copy, Dump, Kept, Live, Replay, Session, Verify}
+use Rattle.cq_args.specs.declared.invocation.Invocation.TheVariants.{Copy, Dump, First, Joining, Kept, Live, Master, Replay, Session, Verify}
 
--- On so many servers a script was replayed, the lines of a session were run, or a live script was. What a session with a
+-- a first server is one of its chain
+abbrev pub IsSound : Invocation → Type 0
+IsSound (First id size) = id ≤ size
+IsSound _ = ⊤
+
+-- On so many servers a script was replayed, the lines of a session were run, or a live script was; or a process of a chain was kept. What a session with a
 -- journal keeps and writes is said where it is served.
 abbrev pub Runs : Invocation → ℕ → Option (List ℕ) → Option (List ℕ) → Bool → Option (List ℕ) → Option (List ℕ) → Bool → Bool → Bool → Option (List ℕ) → Option (List ℕ) → Type 0
 Runs (Replay size) status unread left reader_failed written output writer_failed writer_flushed failed old new =
@@ -25,3 +33,9 @@ Runs (Copy path to) status unread left reader_failed written output writer_faile
     RunsKept status failed old new
 Runs (Dump path) status unread left reader_failed written output writer_failed writer_flushed failed old new =
     RunsKept status failed old new
+Runs (First id size) status unread left reader_failed written output writer_failed writer_flushed failed old new =
+    RunsProcess (KeepsServer (first_member size id)) status unread left reader_failed written output writer_failed writer_flushed failed old new
+Runs (Joining id) status unread left reader_failed written output writer_failed writer_flushed failed old new =
+    RunsProcess (KeepsServer joining) status unread left reader_failed written output writer_failed writer_flushed failed old new
+Runs (Master size) status unread left reader_failed written output writer_failed writer_flushed failed old new =
+    RunsProcess (KeepsMaster size) status unread left reader_failed written output writer_failed writer_flushed failed old new

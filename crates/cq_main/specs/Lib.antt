@@ -4,4 +4,6 @@ pub mod LiveStatuses
 pub mod LiveOutcomes
 pub mod KeptStatuses
 pub mod KeptOutcomes
+pub mod ProcessStatuses
+pub mod ProcessOutcomes
 pub mod Invocations

@@ -6,6 +6,8 @@ mod guide;
 mod kept;
 mod live;
 mod live_fault;
+mod process;
+mod process_fault;
 mod report;
 mod run;
 

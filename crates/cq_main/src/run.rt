@@ -5,7 +5,7 @@ ghost use Rattle.std.specs.IoError.{error_kind};
 ghost use Rattle.clap.specs.Words.{fault_of, kind_of};
 ghost use Rattle.cq_lines.specs.Checks.{inner_of, is_failed, is_flushed};
 ghost use Rattle.cq_args.specs.CommandLine.{asked_invocation, program_app};
-ghost use Rattle.cq_main.specs.Invocations.{Runs};
+ghost use Rattle.cq_main.specs.Invocations.{IsSound, Runs};
 ghost use Rattle.cq_main.specs.Outcomes.{Ends, EndsAt, Helps, Refuses, RunsBy, TellsVersion, unread_text};
 ghost use Rattle.cq_script.specs.Replays.{Headlines, Replays};
 ghost use Rattle.cq_script.specs.Sessions.{SessionHeadlines, Sessions};
@@ -17,6 +17,7 @@ ghost use Rattle.std.specs.declared.io.ErrorKind.TheVariants.{OutOfMemory as NoR
 use crate::guide::GUIDE;
 use crate::kept::{KeptSessions, run_copy, run_dump, run_journal, run_verify};
 use crate::live::run_live;
+use crate::process::{run_first, run_joining, run_master};
 use crate::report::report;
 use clap::Error;
 use clap::error::ErrorKind;
@@ -32,8 +33,8 @@ use std::thread::Threads;
 /// The status after a command line that is not understood.
 const USAGE: u8 = 2;
 
-/// Does what the arguments ask for. It replays the script of the reader, runs a session with it, which a journal may keep, runs it live, or writes help or
-/// the version, on `output`; a fault, or what is wrong with the arguments, goes to `errors`. Gives the status with which the
+/// Does what the arguments ask for. It replays the script of the reader, runs a session with it, which a journal may keep, runs it live,
+/// keeps a process of a chain, or writes help or the version, on `output`; a fault, or what is wrong with the arguments, goes to `errors`. Gives the status with which the
 /// program ends. A live run waits for its threads.
 pub fn run<H: Threads + Wait + Sync + KeptSessions, R: Read, W: Write, E: Write>(
     rt: &H,
@@ -89,6 +90,7 @@ fn carry_out<H: Threads + Wait + Sync + KeptSessions, R: Read, W: Write, E: Writ
     output: &mut Checked<W>,
     errors: &mut Checked<E>,
 ) -> u8
+    requires sound { IsSound invocation.now }
     requires reader { is_failed reader.old ≡ false }
     requires output { is_failed output.old ≡ false }
     ensures { Runs invocation.now result (R.remaining (inner_of reader.old)) (R.remaining (inner_of reader.new))
@@ -108,6 +110,9 @@ fn carry_out<H: Threads + Wait + Sync + KeptSessions, R: Read, W: Write, E: Writ
         Invocation::Verify { path } => run_verify(rt, path, output, errors),
         Invocation::Copy { path, to } => run_copy(rt, path, to, errors),
         Invocation::Dump { path } => run_dump(rt, path, output, errors),
+        Invocation::First { id, size } => run_first(alloc, *id, *size, reader, output, errors),
+        Invocation::Joining { id } => run_joining(alloc, *id, reader, output, errors),
+        Invocation::Master { size } => run_master(alloc, *size, reader, output, errors),
     }
 }
 

@@ -1,4 +1,6 @@
 -- Each invocation is carried out by its own function.
+use Rattle.std.proofs.Common.{subst}
+use Rattle.cq_main.specs.Invocations.{IsSound}
 use Rattle.cq_main.proofs.run.carry_out.Goals as goal
 
 pub returns-in-Replay : goal.returns-in-Replay
@@ -21,3 +23,15 @@ returns-in-Copy g c = rw c.in-Copy.is c.run_copy.ensures
 
 pub returns-in-Dump : goal.returns-in-Dump
 returns-in-Dump g c = rw c.in-Dump.is c.run_dump.ensures
+
+pub returns-in-First : goal.returns-in-First
+returns-in-First g c = rw c.in-First.is c.run_first.ensures
+
+pub returns-in-Joining : goal.returns-in-Joining
+returns-in-Joining g c = rw c.in-Joining.is c.run_joining.ensures
+
+pub returns-in-Master : goal.returns-in-Master
+returns-in-Master g c = rw c.in-Master.is c.run_master.ensures
+
+pub run_first-requires : goal.run_first-requires
+run_first-requires g c = subst (λ it. IsSound it) c.in-First.is c.requires.sound

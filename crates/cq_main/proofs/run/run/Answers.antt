@@ -5,6 +5,7 @@ use Rattle.clap.specs.Words.{fault_of}
 use Rattle.cq_args.specs.CommandLine.{program_app}
 use Rattle.cq_args.specs.ArgFaults.{is_help, is_usage, is_version}
 use Rattle.cq_args.proofs.Asked.{all_are_some, has_such}
+use Rattle.cq_main.proofs.ProcessTold.{asked_sound}
 use Rattle.cq_main.proofs.run.run.Goals as goal
 
 pub returns-in-Err-clause-help : goal.returns-in-Err-clause-help
@@ -38,3 +39,6 @@ returns-in-Err-clause-silent g c = λ all.
       | inl memory ↦ c.tell_error.ensures.silent_for_memory memory
       | inr such ↦ c.tell_error.ensures.silent such
     ]
+
+pub carry_out-requires-clause-sound : goal.carry_out-requires-clause-sound
+carry_out-requires-clause-sound g c = λ κs within. asked_sound _ c.in-Ok.invocation c.in-Ok.ensures.asked
