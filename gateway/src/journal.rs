@@ -8,6 +8,8 @@ use std::fs::{File, OpenOptions, Permissions};
 use std::io::{self, Read, Write};
 use std::os::unix::fs::{OpenOptionsExt, PermissionsExt};
 use std::path::{Path, PathBuf};
+use std::thread;
+use std::time::{Duration, Instant};
 
 use rustix::fs::{flock, fstatfs, FlockOperation, OFlags};
 use thiserror::Error;
@@ -39,6 +41,12 @@ impl From<io::Error> for JournalError {
         JournalError::Io(error.to_string())
     }
 }
+
+/// How long another gateway may hold the lock until it counts as one that goes on. One that was killed while it started a program
+/// holds it for a moment more: that program has it until it runs.
+const PATIENCE: Duration = Duration::from_secs(2);
+
+const PAUSE: Duration = Duration::from_millis(20);
 
 /// What stands in the place of an earlier version's first segment, so that an older gateway refuses to begin beside the
 /// journal.
@@ -115,10 +123,14 @@ impl Files {
         let file = open_file(&name, &mut options)?;
         about(&name, file.set_permissions(Permissions::from_mode(0o600)))?;
         test_disk(&file, &self.path)?;
-        match flock(&file, FlockOperation::NonBlockingLockExclusive) {
-            Ok(()) => Ok(Lock { _file: file }),
-            Err(rustix::io::Errno::WOULDBLOCK) => Err(JournalError::InUse(self.path.display().to_string())),
-            Err(error) => Err(JournalError::Io(format!("{} can't be locked: {error}", name.display()))),
+        let begun = Instant::now();
+        loop {
+            match flock(&file, FlockOperation::NonBlockingLockExclusive) {
+                Ok(()) => return Ok(Lock { _file: file }),
+                Err(rustix::io::Errno::WOULDBLOCK) if begun.elapsed() < PATIENCE => thread::sleep(PAUSE),
+                Err(rustix::io::Errno::WOULDBLOCK) => return Err(JournalError::InUse(self.path.display().to_string())),
+                Err(error) => return Err(JournalError::Io(format!("{} can't be locked: {error}", name.display()))),
+            }
         }
     }
 
