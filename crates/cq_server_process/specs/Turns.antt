@@ -84,8 +84,9 @@ pub record IsUnopened (to : Party) (a b : At) : Type 0 where
   pub others : ChangesOnly a.ends b.ends to
   pub core : b.core ≡ a.core
 
+-- or there is no room for a piece, and nothing is done either
 abbrev pub Sends : Party → At → At → List Response → Option Stop → Type 0
-Sends to a b told stop = SendsAt to a b told stop ⊎ ((stop ≡ Some stops.NoMemory) × ((told ≡ []) × IsUnopened to a b))
+Sends to a b told stop = SendsAt to a b told stop ⊎ ((stop ≡ Some stops.NoMemory) × ((told ≡ []) × (IsUnopened to a b ⊎ (b ≡ a))))
 
 -- ---- a turn
 

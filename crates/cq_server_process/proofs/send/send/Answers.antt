@@ -1,12 +1,15 @@
--- The link is opened first.
-use Rattle.std.proofs.Common.{◌++◌, sym, append-nil, inr, [], refl}
-use Rattle.cq_server_process.specs.Turns.{at}
-use Rattle.cq_server_process.proofs.Sending.{opened-tells}
+-- Room is made first, which changes no bytes.
+use Rattle.std.proofs.Common.{◌∙◌, ◌++◌, sym, subst, append-nil, inr, [], refl}
+use Rattle.std.specs.Prelude.{IfOk, OnErr}
+use Rattle.cq_base.specs.Relations.{IsPrefix}
+use Rattle.cq_server_process.specs.Turns.{Tells, at}
 use Rattle.cq_server_process.proofs.send.send.Goals as goal
 
-pub returns-in-Ok-clause-tells : goal.returns-in-Ok-clause-tells
-returns-in-Ok-clause-tells c =
-    opened-tells c.args.to.now (at c.args.links.now c.args.core.now) (at c.send_at.new.links c.send_at.new.core) c.open.new.self.outgoing c.args.out.now.items c.send_at.new.out.items c.send_at.result (record { opened = c.in-Ok.ensures.ok; others = c.open.ensures.others }) c.send_at.ensures.others c.send_at.ensures.tells
+pub returns-then-make_room-clause-tells : goal.returns-then-make_room-clause-tells
+returns-then-make_room-clause-tells c = subst (λ old. IfOk c.send_in_room.result (λ stop. Tells c.args.to.now (at c.args.links.now c.args.core.now) (at c.send_in_room.new.links c.send_in_room.new.core) stop old c.send_in_room.new.out.items)) c.make_room.ensures c.send_in_room.ensures.tells
 
-pub returns-in-Err-clause-tells : goal.returns-in-Err-clause-tells
-returns-in-Err-clause-tells c = ([], (sym (append-nil c.args.out.now.items), inr (refl, (refl, record { was = c.in-Err.ensures.absent; is = c.in-Err.ensures.err; others = c.open.ensures.others; core = refl }))))
+pub returns-then-make_room-clause-err : goal.returns-then-make_room-clause-err
+returns-then-make_room-clause-err c = subst (λ old. OnErr c.send_in_room.result (IsPrefix old c.send_in_room.new.out.items)) c.make_room.ensures c.send_in_room.ensures.err
+
+pub returns-else-make_room-clause-tells : goal.returns-else-make_room-clause-tells
+returns-else-make_room-clause-tells c = ([], (c.make_room.ensures ∙ sym (append-nil c.args.out.now.items), inr (refl, (refl, inr refl))))
