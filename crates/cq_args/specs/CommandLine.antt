@@ -1,5 +1,5 @@
 -- The command line of the program, in the words of clap's own specification.
-use Rattle.std.specs.Prelude.{◌≡◌, ◌⊎◌, ℕ, ◌-◌, ◌≤◌, ◌&&◌, nat_le, if◌then◌else◌, List, Option, Some, None, option_and_then, option_map, true, [], ◌∷◌, codes, pos, ⊤}
+use Rattle.std.specs.Prelude.{◌≡◌, ◌⊎◌, ℕ, ◌-◌, ◌≤◌, ◌&&◌, nat_le, if◌then◌else◌, List, Option, Some, None, option_and_then, option_map, Bool, true, false, [], ◌∷◌, codes, pos, ⊤}
 use Rattle.std.specs.Str.{all_ascii_digits, bytes_eq}
 use Rattle.std.specs.Str.Parse.{IsNumeral, digits_value, without_leading_plus}
 use Rattle.clap.specs.Words.{App, Row, Rule, Text, first_of, new_app, new_rule, one_of, with_rule, with_subcommand}
@@ -7,7 +7,7 @@ use Rattle.clap.specs.Simple.{on_top}
 use Rattle.clap.specs.declared.builder.action.ArgAction.TheVariants.{SetTrue}
 use Rattle.clap.specs.declared.builder.value_parser.ValueParser.TheVariants.{Signed, Unsigned}
 use Rattle.cq_args.specs.declared.invocation.Invocation.{Invocation}
-use Rattle.cq_args.specs.declared.invocation.Invocation.TheVariants.{Copy, Dump, First, Joining, Kept, Live, Master, Replay, Session, Verify}
+use Rattle.cq_args.specs.declared.invocation.Invocation.TheVariants.{Copy, Dump, First, Joining, Kept, Live, Loaded, Master, Replay, Session, Verify}
 
 -- how many servers the chain begins with; no command about a journal's file has any, and none about a server that joins
 abbrev pub size_of : Invocation → ℕ
@@ -20,6 +20,7 @@ size_of (Copy path to) = 0
 size_of (Dump path) = 0
 size_of (First id size) = size
 size_of (Joining id) = 0
+size_of Loaded = 0
 size_of (Master size) = size
 
 -- the name of the command
@@ -33,6 +34,7 @@ name_of (Copy path to) = codes "copy"
 name_of (Dump path) = codes "dump"
 name_of (First id size) = codes "server"
 name_of (Joining id) = codes "server"
+name_of Loaded = codes "server"
 name_of (Master size) = codes "master"
 
 -- `--servers N`, a number from 1 to 8, and its text if it isn't given
@@ -164,9 +166,16 @@ joining_rule = record (new_rule (codes "joining")) {
   action = Some SetTrue;
 }
 
--- `server --id N [--first SIZE] [--joining]`, of which one has to be there
+-- `--load`
+abbrev pub load_rule : Rule
+load_rule = record (new_rule (codes "load")) {
+  long = Some (codes "load");
+  action = Some SetTrue;
+}
+
+-- `server --id N [--first SIZE] [--joining] [--load]`, of which one of the second and the third has to be there
 abbrev pub server_app : App
-server_app = with_rule (with_rule (with_rule (new_app (codes "server")) id_rule) first_rule) joining_rule
+server_app = with_rule (with_rule (with_rule (with_rule (new_app (codes "server")) id_rule) first_rule) joining_rule) load_rule
 
 -- `--servers N`, a number from 1 to 8, which has to be there
 abbrev pub size_rule : Rule
@@ -241,6 +250,7 @@ HasServers found (Copy path to) = ⊤
 HasServers found (Dump path) = ⊤
 HasServers found (First id size) = ⊤
 HasServers found (Joining id) = ⊤
+HasServers found Loaded = ⊤
 HasServers found invocation = IsSized found (size_of invocation)
 
 -- these files are named, if the command is about any
@@ -259,17 +269,26 @@ HasFiles (Some found) invocation = AsksFiles found.1 invocation
 abbrev pub IsProcess : Invocation → Type 0
 IsProcess (First id size) = ⊤
 IsProcess (Joining id) = ⊤
+IsProcess Loaded = ⊤
 IsProcess (Master size) = ⊤
 IsProcess _ = ⊥
 
--- it keeps that server of a first chain of so many, that server which joins, or the master of a first chain of so many
+-- it keeps that server of a first chain of so many, that server which joins, the only one which begins with a store, or the master of a
+-- first chain of so many
 abbrev pub AsksProcess : List Row → Invocation → Type 0
 AsksProcess rows (First id size) =
     IsNumber (one_of (codes "id") rows) id × IsNumber (one_of (codes "first") rows) size × (id ≤ size)
-    × (one_of (codes "joining") rows ≡ Some (codes "true") → ⊥)
-AsksProcess rows (Joining id) = IsNumber (one_of (codes "id") rows) id × (one_of (codes "joining") rows ≡ Some (codes "false") → ⊥)
+    × (one_of (codes "joining") rows ≡ Some (codes "true") → ⊥) × (one_of (codes "load") rows ≡ Some (codes "true") → ⊥)
+AsksProcess rows (Joining id) =
+    IsNumber (one_of (codes "id") rows) id × (one_of (codes "joining") rows ≡ Some (codes "false") → ⊥) × (one_of (codes "load") rows ≡ Some (codes "true") → ⊥)
+AsksProcess rows Loaded =
+    IsNumber (one_of (codes "id") rows) 1 × IsNumber (one_of (codes "first") rows) 1 × (one_of (codes "load") rows ≡ Some (codes "false") → ⊥)
 AsksProcess rows (Master size) = IsNumber (one_of (codes "servers") rows) size
 AsksProcess rows _ = ⊤
+
+-- a server of that number of a first chain of so many, or the only one, which begins with a store
+abbrev pub IsFirstIn : ℕ → ℕ → Bool → Invocation → Type 0
+IsFirstIn id size is_loading it = ((it ≡ First id size) × (id ≤ size) × (is_loading ≡ false)) ⊎ ((it ≡ Loaded) × (id ≡ 1) × (size ≡ 1) × (is_loading ≡ true))
 
 -- and that is so of what a parse found
 abbrev pub HasProcess : Option (Text × List Row) → Invocation → Type 0
@@ -307,6 +326,7 @@ LacksJournalIn found (Copy path to) = ⊥
 LacksJournalIn found (Dump path) = ⊥
 LacksJournalIn found (First id size) = ⊥
 LacksJournalIn found (Joining id) = ⊥
+LacksJournalIn found Loaded = ⊥
 LacksJournalIn found (Master size) = ⊥
 LacksJournalIn found _ = ⊤
 

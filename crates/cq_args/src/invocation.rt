@@ -6,7 +6,8 @@ ghost use Rattle.clap.specs.declared.builder.command.Command.TheViews.{out-Comma
 ghost use Rattle.clap.specs.declared.error.kind.ErrorKind.TheVariants.{OutOfMemory};
 ghost use Rattle.cq_args.specs.declared.invocation.TheConstants.{ZERO_DIGIT};
 ghost use Rattle.cq_args.specs.declared.invocation.Invocation.{Invocation};
-ghost use Rattle.cq_args.specs.CommandLine.{AsksFiles, AsksJournal, AsksProcess, IsAsked, IsOnFile, IsProcess, LacksJournal, LacksJournalIn, IsNumber, IsSized, ReadsTurns, asked_invocation, command_app, copy_app, file_app, file_rule, first_rule, id_rule, joining_rule, journal_app, journal_rule, journal_size_rule, live_app, master_app, master_name, name_in, name_of, program_app, server_app, server_name, serving_app, size_rule, session_app, session_name, size_of, tell_store_rule, text_in, turns_rule, turns_text, two_syncs_rule};
+ghost use Rattle.cq_args.specs.declared.invocation.Invocation.TheVariants as invocations;
+ghost use Rattle.cq_args.specs.CommandLine.{AsksFiles, AsksJournal, AsksProcess, IsAsked, IsFirstIn, IsOnFile, IsProcess, LacksJournal, LacksJournalIn, IsNumber, IsSized, ReadsTurns, asked_invocation, command_app, copy_app, file_app, file_rule, first_rule, id_rule, joining_rule, journal_app, journal_rule, journal_size_rule, live_app, load_rule, master_app, master_name, name_in, name_of, program_app, server_app, server_name, serving_app, size_rule, session_app, session_name, size_of, tell_store_rule, text_in, turns_rule, turns_text, two_syncs_rule};
 
 use clap::error::ErrorKind;
 use clap::{Arg, ArgAction, ArgMatches, Command, Error, value_parser};
@@ -77,6 +78,8 @@ pub enum Invocation<'a> {
     Joining {
         id: ServerId,
     },
+    /// A process that keeps the only server of a first chain, which begins with a store that it is told.
+    Loaded,
     /// A process that keeps the master of a first chain of so many servers.
     Master {
         size: ChainSize,
@@ -110,6 +113,8 @@ const ID: &str = "id";
 const FIRST: &str = "first";
 
 const JOINING: &str = "joining";
+
+const LOAD: &str = "load";
 
 const TURNS: &str = "turns";
 
@@ -357,6 +362,19 @@ fn joining_option<'a>(alloc: Global) -> Arg<'a>
         .help("It joins a chain, once the master lets it")
 }
 
+/// Whether a server begins with a store that it is told, as an option.
+fn load_option<'a>(alloc: Global) -> Arg<'a>
+    ensures rule { rule_of result ≡ load_rule }
+    ensures local { result.global ≡ false }
+{
+    Arg::new(alloc, LOAD)
+        .long(LOAD)
+        .action(ArgAction::SetTrue)
+        .help(
+            "It begins with a store that it is told first; of a chain of one, as '--id 1 --first 1'",
+        )
+}
+
 /// The subcommand for a process that keeps a server.
 fn server<'a>(alloc: Global) -> Result<Command<'a>, AllocError>
     ensures app { IfOk result (λ command. app_of command ≡ server_app) }
@@ -368,7 +386,8 @@ fn server<'a>(alloc: Global) -> Result<Command<'a>, AllocError>
         )
         .arg(id_option(alloc))?;
     let command = command.arg(first_option(alloc))?;
-    command.arg(joining_option(alloc))
+    let command = command.arg(joining_option(alloc))?;
+    command.arg(load_option(alloc))
 }
 
 /// The number of servers of a first chain, as an option of its master.
@@ -520,24 +539,47 @@ fn file_word_in<'a>(name: &str, options: &ArgMatches<'a>) -> Option<Invocation<'
     }
 }
 
-/// The process that keeps a server, as these options say. `None`: it is neither a first server nor one that joins, or both, or its
-/// number is above the chain's size.
+/// A server that joins: with no size, and no store to begin with.
+fn joining_in<'a>(id: ServerId, size: Option<u8>, is_loading: bool) -> Option<Invocation<'a>>
+    ensures { IfSome result (λ it. (it ≡ invocations.Joining id) × (is_loading ≡ false)) }
+{
+    if is_loading {
+        return None;
+    }
+    match size {
+        None => Some(Invocation::Joining { id }),
+        Some(_) => None,
+    }
+}
+
+/// A server of a first chain: its number is at most the size, and the only one may begin with a store.
+fn first_in<'a>(id: ServerId, size: ChainSize, is_loading: bool) -> Option<Invocation<'a>>
+    ensures { IfSome result (IsFirstIn id size is_loading) }
+{
+    if u32::from(size.get()) < id.get() {
+        return None;
+    }
+    if is_loading {
+        if size.get() == 1 {
+            return Some(Invocation::Loaded);
+        }
+        return None;
+    }
+    Some(Invocation::First { id, size })
+}
+
+/// The process that keeps a server, as these options say. `None`: it is neither a first server nor one that joins, or both, its
+/// number is above the chain's size, or it begins with a store and isn't the only one.
 fn server_in<'a>(options: &ArgMatches<'a>) -> Option<Invocation<'a>>
     ensures { IfSome result (λ it. (name_of it ≡ server_name) × IsProcess it × AsksProcess (rows_of (found_of options.now)) it) }
 {
     let id = ServerId::new(options.get_one::<u32>(ID)?)?;
     let size = options.get_one::<u8>(FIRST);
+    let is_loading = options.get_flag(LOAD);
     if options.get_flag(JOINING) {
-        return match size {
-            None => Some(Invocation::Joining { id }),
-            Some(_) => None,
-        };
+        return joining_in(id, size, is_loading);
     }
-    let size = ChainSize::new(size?)?;
-    if u32::from(size.get()) < id.get() {
-        return None;
-    }
-    Some(Invocation::First { id, size })
+    first_in(id, ChainSize::new(size?)?, is_loading)
 }
 
 /// The process that keeps the master, as these options say.

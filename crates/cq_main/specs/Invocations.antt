@@ -4,12 +4,12 @@ use Rattle.cq_chain.specs.Servers.{first_member, joining}
 use Rattle.cq_main.specs.KeptOutcomes.{RunsKept}
 use Rattle.cq_main.specs.LiveOutcomes.{RunsLive}
 use Rattle.cq_main.specs.Outcomes.{RunsBy}
-use Rattle.cq_main.specs.ProcessOutcomes.{RunsProcess}
+use Rattle.cq_main.specs.ProcessOutcomes.{RunsLoaded, RunsProcess}
 use Rattle.cq_processes.specs.Keeping.{KeepsMaster, KeepsServer}
 use Rattle.cq_script.specs.Replays.{Headlines, Replays}
 use Rattle.cq_script.specs.Sessions.{SessionHeadlines, Sessions}
 use Rattle.cq_args.specs.declared.invocation.Invocation.{Invocation}
-use Rattle.cq_args.specs.declared.invocation.Invocation.TheVariants.{Copy, Dump, First, Joining, Kept, Live, Master, Replay, Session, Verify}
+use Rattle.cq_args.specs.declared.invocation.Invocation.TheVariants.{Copy, Dump, First, Joining, Kept, Live, Loaded, Master, Replay, Session, Verify}
 
 -- a first server is one of its chain
 abbrev pub IsSound : Invocation → Type 0
@@ -39,3 +39,5 @@ Runs (Joining id) status unread left reader_failed written output writer_failed 
     RunsProcess (KeepsServer joining) status unread left reader_failed written output writer_failed writer_flushed failed old new
 Runs (Master size) status unread left reader_failed written output writer_failed writer_flushed failed old new =
     RunsProcess (KeepsMaster size) status unread left reader_failed written output writer_failed writer_flushed failed old new
+Runs Loaded status unread left reader_failed written output writer_failed writer_flushed failed old new =
+    RunsLoaded status unread left reader_failed written output writer_failed writer_flushed failed old new

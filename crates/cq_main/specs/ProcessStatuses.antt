@@ -24,3 +24,7 @@ process_name_of TooManyBytes = codes "TooManyBytes"
 -- its line
 abbrev pub process_fault_text : LoopFault → List ℕ
 process_fault_text fault = codes "cq: " ++ (decimal (process_code_of fault) ++ (codes " " ++ (process_name_of fault ++ 10 ∷ [])))
+
+-- the line where what came first was no store
+abbrev pub not_loaded_text : List ℕ
+not_loaded_text = codes "cq: 78 NotLoaded" ++ 10 ∷ []

@@ -89,4 +89,5 @@ Exit statuses:
   4  the journal of a session: 66 JournalFailed, as where a write or a sync of it failed, or where a
      copy is there already, 67 JournalDamaged, 68 JournalBusy, as another session has it, or 69
      NotAJournal
+  5  a server that was to begin with a store was told none: 78 NotLoaded
 A fault is told by one line on standard error, such as "cq: 61 BadLine line 3"."#;

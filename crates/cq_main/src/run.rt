@@ -17,7 +17,7 @@ ghost use Rattle.std.specs.declared.io.ErrorKind.TheVariants.{OutOfMemory as NoR
 use crate::guide::GUIDE;
 use crate::kept::{KeptSessions, run_copy, run_dump, run_journal, run_verify};
 use crate::live::run_live;
-use crate::process::{run_first, run_joining, run_master};
+use crate::process::{run_first, run_joining, run_loaded, run_master};
 use crate::report::report;
 use clap::Error;
 use clap::error::ErrorKind;
@@ -112,6 +112,7 @@ fn carry_out<H: Threads + Wait + Sync + KeptSessions, R: Read, W: Write, E: Writ
         Invocation::Dump { path } => run_dump(rt, path, output, errors),
         Invocation::First { id, size } => run_first(alloc, *id, *size, reader, output, errors),
         Invocation::Joining { id } => run_joining(alloc, *id, reader, output, errors),
+        Invocation::Loaded => run_loaded(alloc, reader, output, errors),
         Invocation::Master { size } => run_master(alloc, *size, reader, output, errors),
     }
 }

@@ -1,14 +1,20 @@
 -- What a process has done by its end: what it read, and what it wrote.
-use Rattle.std.specs.Prelude.{◌≡◌, ℕ, List, [], Option, Result, Err, ◌⊎◌}
+use Rattle.std.specs.Prelude.{◌≡◌, ℕ, Bool, List, [], Option, None, Result, Ok, Err, ◌⊎◌}
 use Rattle.cq_chain.specs.Servers as servers
 use Rattle.cq_frame_loop.specs.declared.fault.LoopFault.{LoopFault}
-use Rattle.cq_frame_loop.specs.declared.fault.LoopFault.TheVariants.{NoMemory}
-use Rattle.cq_frame_loop.specs.Loops.{AnswersInput}
+use Rattle.cq_frame_loop.specs.declared.fault.LoopFault.TheVariants.{NoMemory, Unanswered}
+use Rattle.cq_frame_loop.specs.Loops.{AnswersInput, LeavesReader, LeavesWriter}
 use Rattle.cq_master_process.specs.declared.process.MasterProcess.{MasterProcess}
 use Rattle.cq_master_process.specs.Answering as master
-use Rattle.cq_server_process.specs.declared.process.ServerProcess.{ServerProcess}
+use Rattle.cq_processes.specs.declared.keep.LoadEnd.{LoadEnd}
+use Rattle.cq_processes.specs.declared.keep.LoadEnd.TheVariants as ends
+use Rattle.cq_server_copies.specs.declared.loading.LoadingProcess.{LoadingProcess}
+use Rattle.cq_server_copies.specs.declared.loading.Stage.TheVariants as stages
+use Rattle.cq_server_copies.specs.declared.saving.SavingProcess.{SavingProcess}
+use Rattle.cq_server_copies.specs.Loading as loading
+use Rattle.cq_server_copies.specs.Saving as saving
 use Rattle.cq_server_process.specs.Answers as server
-use Rattle.cq_server_process.specs.Processes.{answers}
+use Rattle.cq_store_wire.specs.declared.build.State.TheVariants as states
 
 -- There was no memory for the process, and nothing was read or written.
 abbrev pub NeverBegan : Result (Unit {0}) LoopFault → List ℕ → List ℕ → Type 0
@@ -16,10 +22,11 @@ NeverBegan result input output = (result ≡ Err NoMemory) × ((input ≡ []) ×
 
 -- A process whose server stood for that at first answered the frames of the input, and wrote the answers.
 pub record AnswersFrom (s : servers.Server) (result : Result (Unit {0}) LoopFault) (input : List ℕ) (left : Option (List ℕ)) (output : List ℕ) : Type 0 where
-  pub first : ServerProcess
-  pub last : ServerProcess
-  pub new : server.IsNewProcess s (server.state first.links first.core)
-  pub answered : AnswersInput answers result first last input left output
+  pub first : SavingProcess
+  pub last : SavingProcess
+  pub new : server.IsNewProcess s (server.state first.process.links first.process.core)
+  pub copy : first.copy ≡ None
+  pub answered : AnswersInput saving.Answers result first last input left output
 
 abbrev pub KeepsServer : servers.Server → Result (Unit {0}) LoopFault → List ℕ → Option (List ℕ) → List ℕ → Type 0
 KeepsServer s result input left output = AnswersFrom s result input left output ⊎ NeverBegan result input output
@@ -33,3 +40,22 @@ pub record AnswersAsMaster (size : ℕ) (result : Result (Unit {0}) LoopFault) (
 
 abbrev pub KeepsMaster : ℕ → Result (Unit {0}) LoopFault → List ℕ → Option (List ℕ) → List ℕ → Type 0
 KeepsMaster size result input left output = AnswersAsMaster size result input left output ⊎ NeverBegan result input output
+
+-- The answer that the loop over its frames gave. That what came was no store is told by itself.
+abbrev pub loop_of : Result (Unit {0}) LoadEnd → Result (Unit {0}) LoopFault
+loop_of (Ok _) = Ok tt
+loop_of (Err ends.NotLoaded) = Err Unanswered
+loop_of (Err (ends.Loop fault)) = Err fault
+
+-- A process that had read nothing of a store at first answered the frames of the input.
+pub record AnswersLoading (result : Result (Unit {0}) LoadEnd) (input : List ℕ) (left : Option (List ℕ)) (output : List ℕ) : Type 0 where
+  pub first : LoadingProcess
+  pub last : LoadingProcess
+  pub new : first.stage ≡ stages.Loading states.Empty
+  pub answered : AnswersInput loading.Answers (loop_of result) first last input left output
+
+abbrev pub LeavesLoading : Result (Unit {0}) LoadEnd → List ℕ → Bool → Bool → Type 0
+LeavesLoading result input failed flushed = LeavesWriter (loop_of result) input failed flushed
+
+abbrev pub LeavesLoader : Result (Unit {0}) LoadEnd → Bool → Type 0
+LeavesLoader result failed = LeavesReader (loop_of result) failed

@@ -5,4 +5,4 @@
 mod keep;
 
 pub use cq_frame_loop::LoopFault;
-pub use keep::{keep_first, keep_joining, keep_master};
+pub use keep::{LoadEnd, keep_first, keep_joining, keep_loaded, keep_master};

@@ -1,14 +1,17 @@
 //! A process that keeps one server of a chain.
-ghost use Rattle.std.specs.Prelude.{◌≡◌, ◌≤◌, option_map, vec_capacity, vec_len, IfOk, OnErr, OnOk};
+ghost use Rattle.std.specs.Prelude.{◌≡◌, ◌≤◌, List, option_map, vec_capacity, vec_len, IfOk, OnErr, OnOk};
+ghost use Rattle.cq_base.specs.declared.ask.Entry as rust_entry;
 ghost use Rattle.cq_base.specs.Relations.{IsPrefix};
-ghost use Rattle.cq_chain.specs.Servers.{first_member, joining};
+ghost use Rattle.cq_chain.specs.Servers.{alone, first_member, joining};
 ghost use Rattle.cq_server_process.specs.Answers.{IsNewProcess, TellsAnswer, state};
+ghost use Rattle.cq_store.specs.Stands as stores;
 
 use crate::answer::answer;
 use cq_base::{ChainSize, NoMemory, ServerId};
 use cq_chain::Server;
 use cq_process::Links;
 use cq_process_frames::TooLong;
+use cq_store::Store;
 use std::alloc::Global;
 
 /// A server of a chain, with its links to all others. It is told commands, and tells what comes of them, as frames.
@@ -43,6 +46,24 @@ impl ServerProcess {
             links: Links::new(alloc),
             core,
         })
+    }
+
+    /// The server of a chain of one, at rest, whose store that is. It keeps the allocator. O(1).
+    pub fn alone(alloc: Global, store: Store) -> ServerProcess
+        ensures { (entries : List rust_entry.Entry) → stores.StandsFor store entries → IsNewProcess (alone entries) (state result.links result.core) }
+    {
+        ServerProcess {
+            alloc,
+            links: Links::new(alloc),
+            core: Server::alone(alloc, store),
+        }
+    }
+
+    /// Its server: O(1).
+    pub fn core(&self) -> &Server
+        ensures { result.now ≡ self.now.core }
+    {
+        &self.core
     }
 
     /// Answers the bytes of a frame, or a frame that was too long. What it tells is what comes behind `out`, and then `end`, which is

@@ -35,3 +35,6 @@ returns-in-Master g c = rw c.in-Master.is c.run_master.ensures
 
 pub run_first-requires : goal.run_first-requires
 run_first-requires g c = subst (λ it. IsSound it) c.in-First.is c.requires.sound
+
+pub returns-in-Loaded : goal.returns-in-Loaded
+returns-in-Loaded g c = rw c.in-Loaded.is c.run_loaded.ensures

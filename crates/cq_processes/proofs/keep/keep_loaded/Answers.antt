@@ -1,0 +1,31 @@
+-- What was answered, by the fault of the loop.
+use Rattle.std.proofs.Common.{◌≡◌, Err, Result, refl, subst, sym}
+use Rattle.cq_frame_loop.specs.declared.fault.LoopFault.{LoopFault}
+use Rattle.cq_frame_loop.specs.Loops.{AnswersInput, LeavesReader, LeavesWriter}
+use Rattle.cq_server_copies.specs.Loading as loading
+use Rattle.cq_processes.proofs.keep.keep_loaded.Goals as goal
+
+pub returns-in-Ok-clause-keeps : goal.returns-in-Ok-clause-keeps
+returns-in-Ok-clause-keeps g c =
+    let h = c.in-Ok.ensures.answers in
+    (h.0, h.1, h.2, h.3, record { first = c.new-process.result; last = c.answer_frames.new.handler; new = c.new-process.ensures; answered = h.4 }, h.5)
+
+pub returns-clause-keeps : goal.returns-clause-keeps
+returns-clause-keeps g c =
+    let h = c.in-Err.ensures.answers in
+    let is = sym c.end_of.ensures in (
+      h.0,
+      h.1,
+      h.2,
+      h.3,
+      record {
+        first = c.new-process.result;
+        last = c.answer_frames.new.handler;
+        new = c.new-process.ensures;
+        answered = subst (λ (r : Result (Unit {0}) LoopFault). AnswersInput loading.Answers r c.new-process.result c.answer_frames.new.handler h.0 (g.R.Read.remaining c.answer_frames.new.reader) h.1) is h.4;
+      },
+      subst (λ (r : Result (Unit {0}) LoopFault). LeavesWriter r h.0 (g.W.Sink.has_failed c.answer_frames.new.writer) (g.W.Sink.has_flushed c.answer_frames.new.writer)) is h.5,
+    )
+
+pub returns-clause-reader : goal.returns-clause-reader
+returns-clause-reader g c = subst (λ (r : Result (Unit {0}) LoopFault). LeavesReader r (g.R.Source.has_failed c.answer_frames.new.reader)) (sym c.end_of.ensures) c.in-Err.ensures.reader
