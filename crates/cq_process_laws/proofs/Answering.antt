@@ -1,0 +1,349 @@
+-- What is done of a frame, as deeds.
+use Rattle.std.proofs.Common.{◌≡◌, ℕ, ◌+◌, ◌==◌, ◌∙◌, ap, sym, refl, subst, if◌then◌else◌, List, [], ◌∷◌, ◌++◌, append-nil, append_assoc, Bool, true, false, Option, Some, None, inl, inr, Result, Ok, Err}
+use Rattle.std.specs.Prelude.{◌⊎◌}
+use Rattle.std.specs.List.{AllByRecursion}
+use Rattle.std.proofs.lemmas.Bool.{cases_Bool, eqb-true, eq-eqb, true≢false}
+use Rattle.cq_base.specs.declared.party.Party.{Party}
+use Rattle.cq_base.specs.declared.party.Party.TheVariants as parties
+use Rattle.cq_chain.specs.declared.message.Message as rust
+use Rattle.cq_chain.specs.declared.server.Server as rust_server
+use Rattle.cq_chain.specs.Stands as chain
+use Rattle.cq_chain_wire.specs.declared.reader.Progress.TheVariants.{More, Whole}
+use Rattle.cq_events.specs.Actions.{Action, Arrived, Asked}
+use Rattle.cq_events.proofs.Parties.{same-refl}
+use Rattle.cq_frames.specs.declared.command.Command.{Command}
+use Rattle.cq_frames.specs.declared.command.Command.TheVariants as commands
+use Rattle.cq_frames.specs.declared.response.Response.{Response}
+use Rattle.cq_frames.specs.declared.response.Response.TheVariants as responses
+use Rattle.cq_frames.specs.Reading.{command_at}
+use Rattle.cq_process.specs.declared.incoming.TakeFault.{TakeFault}
+use Rattle.cq_process.specs.declared.incoming.TakeFault.TheVariants as take_faults
+use Rattle.cq_process.specs.declared.incoming.Taken.{Taken}
+use Rattle.cq_process.specs.declared.incoming.Taken.TheVariants as taken_as
+use Rattle.cq_process.specs.Links.{ChangesOnly, Received, TakesPiece, end_of, is_gone, received, received_from}
+use Rattle.cq_process.specs.Taking.{read_on}
+use Rattle.cq_server_process.specs.Answers.{Answers, AnswersBytes, AnswersCommand, Beside, GoesAway, GoesOn, GoesWith, Happens, IsRefusedAs, IsUnread, Leaves, Refuses, SendsMore, State, Takes, unread_as, waiting}
+use Rattle.cq_server_process.specs.Turns.{at, frames}
+use Rattle.cq_wire.specs.declared.fault.ReadFault.{ReadFault}
+use Rattle.cq_wire.specs.declared.fault.ReadFault.TheVariants as read_faults
+use Rattle.cq_wire.specs.Reading.{whole_at}
+use Rattle.cq_wire.proofs.Fronts.{ok_is}
+use Rattle.cq_process_laws.specs.Deeds.{Acted, Came, Deed, Lost, Missed, Read, Rested, actions_in, responses_in}
+use Rattle.cq_process_laws.specs.Laws.{AnswersAreActions}
+use Rattle.cq_process_laws.specs.Runs.{AreTold, BeginsWith, ComesOf, IsCarriedOut, IsDone, IsPassedOver, IsRefusal, IsRefusedWith, TellsNoPiece}
+use Rattle.cq_process_laws.specs.Deeds as rules
+use Rattle.cq_process_laws.proofs.Acting.{deeds-act, did-both, kept-from}
+use Rattle.cq_process_laws.proofs.Moments.{ByItself, Comes, Did, DidAll, IsLetGo, IsRead, Loses, Misses, Now, OnlyFrom, Rests, Stays, core_now, now, with_at}
+use Rattle.cq_process_laws.proofs.Turning.{Makes, all-both, all-turn, makes-both, makes-none, responses-both, rests-same, sent, thrown-from}
+
+-- What is done of a frame, by deeds from one state to the other.
+pub record Doing (p q : State) (frame : Option (List ℕ)) (text : List ℕ) : Type 0 where
+  pub told : List Response
+  pub deeds : List Deed
+  pub as_frames : text ≡ frames told
+  pub are_told : AreTold told deeds
+  pub comes : ComesOf q.links.gone.keys frame told deeds
+  pub did : DidAll (now p) deeds (now q)
+
+-- ---- states
+
+-- the turns leave what came, and who is gone
+same-now : (p q : State) → q.links.incoming ≡ p.links.incoming → q.links.gone ≡ p.links.gone → with_at (now p) (at q.links q.core) ≡ now q
+same-now p q incoming gone =
+    let keys : p.links.gone.keys ≡ q.links.gone.keys = ap (λ g. g.keys) (sym gone) in
+    λ i. record { core = q.core; outgoing = q.links.outgoing; incoming = sym incoming i; gone = keys i }
+
+stays-kept : (a b : Now) → chain.Keeps a.core b.core → b.outgoing ≡ a.outgoing → b.incoming ≡ a.incoming → b.gone ≡ a.gone → Stays a b
+stays-kept a b keeps outgoing incoming gone = record {
+  core = kept-from a.core b.core a.outgoing b.outgoing outgoing keeps;
+  outgoing = λ to. subst (λ ends. Rests (end_of a.outgoing to) (end_of ends to)) (sym outgoing) (rests-same (end_of a.outgoing to));
+  incoming = incoming;
+  gone = gone;
+}
+
+-- ---- pieces that come
+
+-- what isn't out of turn is in turn
+in-turn : (r after : Received) (a b : rust_server.Server) (from : Party) (number : ℕ) (piece : List ℕ) (result : Result Taken TakeFault) → TakesPiece r after a b from number piece result → (result ≡ Err take_faults.NotNext → ⊥) → number ≡ r.taken + 1
+in-turn r after a b from number piece result h other = elim (cases_Bool (number == r.taken + 1)) [
+  | inl same ↦ eqb-true number (r.taken + 1) same
+  | inr apart ↦ absurd (other (h.out_of_turn (λ is. true≢false (sym (eq-eqb number (r.taken + 1) is) ∙ apart))))
+]
+
+module _ (p q : State) (from : Party) (number : ℕ) (piece : List ℕ) where
+  abbrev pub FirstOfTake : Type 0
+  FirstOfTake = (first : List Deed) × (BeginsWith (commands.Take from number piece) first × (DidAll (now p) first (now q) × (responses_in first ≡ [])))
+
+  piece-came : (taken : Taken) → OnlyFrom from (now p) (now q) → is_gone p.links.gone.keys from ≡ false
+      → TakesPiece (received_from p.links.incoming from) (received_from q.links.incoming from) p.core q.core from number piece (Ok taken) → FirstOfTake
+  piece-came taken_as.Piece only lives h = (
+    Came from number piece ∷ [],
+    (
+      inl refl,
+      (
+        (
+          now q,
+          (
+            record {
+              only = only;
+              lives = lives;
+              keeps = h.idle (λ is. absurd cc);
+              next = in-turn (received_from p.links.incoming from) (received_from q.links.incoming from) p.core q.core from number piece (Ok taken_as.Piece) h (λ is. absurd cc);
+              so_far = h.read.0;
+              read = h.read.1;
+              taken = h.counted;
+              left = ok_is (received_from q.links.incoming from).next (More h.read.0) (sym h.left ∙ h.read.1);
+            },
+            refl,
+          ),
+        ),
+        refl,
+      ),
+    ),
+  )
+  piece-came taken_as.Message only lives h =
+      let took = h.took refl in (
+        Read from number piece took.message ∷ [],
+        (
+          inr (took.message, refl),
+          (
+            (
+              now q,
+              (
+                record {
+                  only = only;
+                  lives = lives;
+                  takes = took.done;
+                  next = in-turn (received_from p.links.incoming from) (received_from q.links.incoming from) p.core q.core from number piece (Ok taken_as.Message) h (λ is. absurd cc);
+                  read = took.whole;
+                  taken = h.counted;
+                  left = h.left;
+                },
+                refl,
+              ),
+            ),
+            refl,
+          ),
+        ),
+      )
+
+  abbrev pub Missing : Type 0
+  Missing = Misses from number piece (now p) (now q)
+
+  piece-left : (fault : TakeFault) → OnlyFrom from (now p) (now q) → is_gone p.links.gone.keys from ≡ false
+      → TakesPiece (received_from p.links.incoming from) (received_from q.links.incoming from) p.core q.core from number piece (Err fault) → Missing
+  piece-left fault only lives h = record {
+    only = only;
+    keeps = h.idle (λ is. absurd cc);
+    taken = h.counted;
+    left = λ there. left fault h;
+  } where
+    before : Received
+    before = received_from p.links.incoming from
+
+    after : Received
+    after = received_from q.links.incoming from
+
+    left : (f : TakeFault) → TakesPiece before after p.core q.core from number piece (Err f)
+        → ((number ≡ before.taken + 1 → ⊥) × (after.next ≡ before.next)) ⊎ ((number ≡ before.taken + 1) × IsLetGo before.next piece after.next)
+    left take_faults.NotNext k = inl ((λ is. k.in_turn is refl), k.left)
+    left (take_faults.Unread one) k = inr (in-turn before after p.core q.core from number piece (Err (take_faults.Unread one)) k (λ is. absurd cc), inl k.left)
+    left (take_faults.Refused one) k = inr (in-turn before after p.core q.core from number piece (Err (take_faults.Refused one)) k (λ is. absurd cc), inr (k.read.0, (k.read.1, ok_is after.next (Whole k.read.0) (sym k.left ∙ k.read.1))))
+
+pub left-missed : (p q : State) (from : Party) (number : ℕ) (piece : List ℕ) (code : ℕ) → Leaves from number piece code p q → Misses from number piece (now p) (now q)
+left-missed p q from number piece code h = elim (cases_Bool (is_gone p.links.gone.keys from)) [
+  | inl away ↦ gone away (h.thrown away)
+  | inr lives ↦ piece-left p q from number piece h.fault only lives (h.lives lives)
+] where
+  only : OnlyFrom from (now p) (now q)
+  only = record { others = h.others; outgoing = h.outgoing; gone = ap (λ g. g.keys) h.gone }
+
+  gone : is_gone p.links.gone.keys from ≡ true → (h.fault ≡ take_faults.NotNext) × (chain.Keeps p.core q.core × (q.links.incoming ≡ p.links.incoming)) → Misses from number piece (now p) (now q)
+  gone away k = record {
+    only = only;
+    keeps = k.1.0;
+    taken = ap (λ ends. (received_from ends from).taken) k.1.1;
+    left = λ lives. absurd (true≢false (sym away ∙ lives));
+  }
+
+-- ---- what comes of a command by itself
+
+pub record Begun (command : Command) (p q : State) (told : List Response) : Type 0 where
+  pub first : List Deed
+  pub begins : BeginsWith command first
+  pub mid : Now
+  pub did : DidAll (now p) first mid
+  pub quiet : responses_in first ≡ []
+  pub makes : Makes mid (now q) told
+
+beside-begun : (command : Command) (action : Action) (p q : State) (told : List Response) → told ≡ [] → BeginsWith command (Acted action ∷ []) → Beside action p q → Begun command p q told
+beside-begun command action p q told none begins h = record {
+  first = Acted action ∷ [];
+  begins = begins;
+  mid = now q;
+  did = (now q, (record { does = h.does; outgoing = ap (λ l. l.outgoing) h.links; incoming = ap (λ l. l.incoming) h.links; gone = ap (λ l. l.gone.keys) h.links }, refl));
+  quiet = refl;
+  makes = makes-none (now q) (now q) told refl none;
+}
+
+takes-begun : (from : Party) (number : ℕ) (piece : List ℕ) (p q : State) (told : List Response) → told ≡ [] → Takes from number piece p q → Begun (commands.Take from number piece) p q told
+takes-begun from number piece p q told none h =
+    let first = piece-came p q from number piece h.taken (record { others = h.others; outgoing = h.outgoing; gone = ap (λ g. g.keys) h.gone }) h.lives h.takes in
+    record {
+      first = first.0;
+      begins = first.1.0;
+      mid = now q;
+      did = first.1.1.0;
+      quiet = first.1.1.1;
+      makes = makes-none (now q) (now q) told refl none;
+    }
+
+away-begun : (server : ℕ) (p q : State) (told : List Response) → told ≡ [] → GoesAway server p q → Begun (commands.Gone server) p q told
+away-begun server p q told none h = record {
+  first = Lost party ∷ [];
+  begins = refl;
+  mid = with_at (now q) (at p.links p.core);
+  did = (
+    with_at (now q) (at p.links p.core),
+    (
+      record {
+        core = refl;
+        outgoing = refl;
+        others = h.others;
+        gone = h.gone;
+        taken = ap (λ (r : Received). r.taken) h.lets_go;
+      },
+      refl,
+    ),
+  );
+  quiet = refl;
+  makes = subst (λ xs. Makes (with_at (now q) (at p.links p.core)) (now q) xs) (sym none)
+      (thrown-from (now q) (at p.links p.core) (at q.links q.core) party h.result (end_of p.links.outgoing party) (end_of q.links.outgoing party) gone refl refl h.throws h.ends);
+} where
+  party : Party
+  party = parties.Server server
+
+  gone : is_gone q.links.gone.keys party ≡ true
+  gone = h.gone party ∙ ap (λ t. if t then true else is_gone p.links.gone.keys party) (same-refl party)
+
+more-begun : (to : Party) (p q : State) (told : List Response) (before : Option Party) → SendsMore to p q told before → Begun (commands.More to) p q told
+more-begun to p q told before h = record {
+  first = [];
+  begins = refl;
+  mid = now p;
+  did = refl;
+  quiet = refl;
+  makes = elim (cases_Bool (is_gone p.links.gone.keys to)) [
+    | inl away ↦ let k = h.thrown away in makes-none (now p) (now q) told (ap now (sym k.0)) k.1.0
+    | inr lives ↦ let k = h.lives lives in subst (λ n. Makes (now p) n told) (same-now p q h.incoming h.gone) (sent (now p) (at p.links p.core) (at q.links q.core) to told k.0 lives k.1.0)
+  ];
+}
+
+happens-begun : (command : Command) (p q : State) (told : List Response) (before : Option Party) → Happens command p q told before → Begun command p q told
+happens-begun (commands.Arrive clock request) p q told before h = beside-begun (commands.Arrive clock request) (Arrived clock request) p q told h.0 refl h.1.1
+happens-begun (commands.Ask query) p q told before h = beside-begun (commands.Ask query) (Asked query) p q told h.0 refl h.1.1
+happens-begun (commands.Take from number piece) p q told before h = takes-begun from number piece p q told h.0 h.1.1
+happens-begun (commands.Gone server) p q told before h = away-begun server p q told h.0 h.1.1
+happens-begun (commands.More to) p q told before h = more-begun to p q told before h
+happens-begun (commands.Detect server) p q told before h = absurd h
+happens-begun (commands.Join server) p q told before h = absurd h
+happens-begun commands.Save p q told before h = absurd h
+happens-begun (commands.Load chunk) p q told before h = absurd h
+
+-- ---- a command that is carried out
+
+no-pieces : (first : Option Party) (one : Response) → TellsNoPiece one → AllByRecursion TellsNoPiece (waiting first ++ one ∷ [])
+no-pieces None one h = (h, tt)
+no-pieces (Some to) one h = (tt, (h, tt))
+
+carried : (command : Command) (p q : State) (bytes text : List ℕ) (told : List Response) → text ≡ frames told → whole_at command_at bytes ≡ Ok command → GoesOn command p q told → Doing p q (Some bytes) text
+carried command p q bytes text told is read h = record {
+  told = told;
+  deeds = begun.first ++ makes.deeds;
+  as_frames = is;
+  are_told = record {
+    end = waiting h.first ++ responses.Done h.standing ∷ [];
+    is = h.is ∙ ap (λ xs. xs ++ (waiting h.first ++ responses.Done h.standing ∷ [])) (goes.is ∙ makes.is ∙ ap (λ xs. xs ++ responses_in makes.deeds) (sym begun.quiet) ∙ sym (responses-both begun.first makes.deeds));
+    none = no-pieces h.first (responses.Done h.standing) tt;
+  };
+  comes = inl (record {
+    command = command;
+    read = read;
+    first = begun.first;
+    later = makes.deeds;
+    is = refl;
+    begins = begun.begins;
+    before = h.put ++ waiting h.first;
+    standing = h.standing;
+    ends = h.is ∙ sym (append_assoc h.put (waiting h.first) (responses.Done h.standing ∷ []));
+    sends = subst (λ gone. AllByRecursion (rules.Sends gone) makes.deeds) (sym makes.gone) makes.sends;
+  });
+  did = did-both begun.first makes.deeds (now p) begun.mid (now q) begun.did makes.did;
+} where
+  goes : GoesWith command p q h.put h.first
+  goes = h.goes
+
+  begun : Begun command p goes.mid goes.of_it
+  begun = happens-begun command p goes.mid goes.of_it goes.before goes.happens
+
+  turns : Makes (now goes.mid) (now q) goes.in_turns
+  turns = subst (λ n. Makes (now goes.mid) n goes.in_turns) (same-now goes.mid q goes.incoming goes.gone) (all-turn (now goes.mid) goes.before h.first (at goes.mid.links goes.mid.core) (at q.links q.core) goes.in_turns goes.rounds)
+
+  makes : Makes begun.mid (now q) (goes.of_it ++ goes.in_turns)
+  makes = makes-both begun.mid (now goes.mid) (now q) goes.of_it goes.in_turns begun.makes turns
+
+-- ---- one that is refused
+
+one-refused : (deed : Deed) (p q : State) (bytes text : List ℕ) (command : Command) (code : ℕ) → text ≡ frames (responses.Refused code ∷ []) → whole_at command_at bytes ≡ Ok command → IsRefusedWith command (deed ∷ []) → responses_in (deed ∷ []) ≡ []
+    → Did deed (now p) (now q) → Doing p q (Some bytes) text
+one-refused deed p q bytes text command code is read refused quiet did = record {
+  told = responses.Refused code ∷ [];
+  deeds = deed ∷ [];
+  as_frames = is;
+  are_told = record { end = responses.Refused code ∷ []; is = ap (λ xs. xs ++ responses.Refused code ∷ []) (sym quiet); none = (tt, tt) };
+  comes = inr (inl (record { command = command; read = read; code = code; is = refl; refused = refused }));
+  did = (now q, (did, refl));
+}
+
+same-stays : (p q : State) → q ≡ p → Stays (now p) (now q)
+same-stays p q same = subst (λ r. Stays (now p) (now r)) (sym same) (stays-kept (now p) (now p) (λ s outbox i. i) refl refl refl)
+
+refused : (command : Command) (p q : State) (bytes text : List ℕ) (code : ℕ) → text ≡ frames (responses.Refused code ∷ []) → whole_at command_at bytes ≡ Ok command → Refuses command code p q → Doing p q (Some bytes) text
+refused (commands.Arrive clock request) p q bytes text code is read h = one-refused Rested p q bytes text (commands.Arrive clock request) code is read refl refl
+    (stays-kept (now p) (now q) h.keeps (ap (λ l. l.outgoing) h.links) (ap (λ l. l.incoming) h.links) (ap (λ l. l.gone.keys) h.links))
+refused (commands.Ask query) p q bytes text code is read h = one-refused Rested p q bytes text (commands.Ask query) code is read refl refl
+    (stays-kept (now p) (now q) h.keeps (ap (λ l. l.outgoing) h.links) (ap (λ l. l.incoming) h.links) (ap (λ l. l.gone.keys) h.links))
+refused (commands.Take from number piece) p q bytes text code is read h = one-refused (Missed from number piece) p q bytes text (commands.Take from number piece) code is read refl refl (left-missed p q from number piece code h)
+refused (commands.Gone server) p q bytes text code is read h = one-refused Rested p q bytes text (commands.Gone server) code is read refl refl (stays-kept (now p) (now q) h.keeps h.outgoing h.incoming h.gone)
+refused (commands.More to) p q bytes text code is read h = absurd h
+refused (commands.Detect server) p q bytes text code is read h = one-refused Rested p q bytes text (commands.Detect server) code is read refl refl (same-stays p q h.1)
+refused (commands.Join server) p q bytes text code is read h = one-refused Rested p q bytes text (commands.Join server) code is read refl refl (same-stays p q h.1)
+refused commands.Save p q bytes text code is read h = one-refused Rested p q bytes text commands.Save code is read refl refl (same-stays p q h.1)
+refused (commands.Load chunk) p q bytes text code is read h = one-refused Rested p q bytes text (commands.Load chunk) code is read refl refl (same-stays p q h.1)
+
+-- ---- and one that isn't read
+
+passed-over : (fault : ReadFault) (told : List Response) → told ≡ unread_as fault → IsPassedOver told [] × AllByRecursion TellsNoPiece told
+passed-over read_faults.NoMemory told is = (record { code = _; is = inl is; nothing = refl }, subst (AllByRecursion TellsNoPiece) (sym is) (tt, tt))
+passed-over (read_faults.Bad fault) told is = (record { code = _; is = inr is; nothing = refl }, subst (AllByRecursion TellsNoPiece) (sym is) (tt, tt))
+
+unread : (fault : ReadFault) (p q : State) (frame : Option (List ℕ)) (text : List ℕ) (told : List Response) → text ≡ frames told → IsUnread fault p q told → (IsPassedOver told [] → ComesOf q.links.gone.keys frame told []) → Doing p q frame text
+unread fault p q frame text told is h comes =
+    let over = passed-over fault told h.is in
+    record { told = told; deeds = []; as_frames = is; are_told = record { end = told; is = refl; none = over.1 }; comes = comes over.0; did = ap now (sym h.stays) }
+
+pub doing : (p q : State) (frame : Option (List ℕ)) (text : List ℕ) → Answers p frame text q → Doing p q frame text
+doing p q None text h = unread _ p q None text h.0 h.1.0 h.1.1 (λ over. over)
+doing p q (Some bytes) text h = elim h.1.1 [
+  | inl none ↦ unread none.0 p q (Some bytes) text h.0 h.1.0 none.1.1 (λ over. inr (inr over))
+  | inr one ↦ elim one.1.1 [
+    | inl goes ↦ carried one.0 p q bytes text h.0 h.1.0 one.1.0 goes
+    | inr fault ↦ refused one.0 p q bytes text fault.code (h.1.0 ∙ ap frames fault.is) one.1.0 fault.refuses
+  ]
+]
+
+pub done-of : (p q : State) (frame : Option (List ℕ)) (text : List ℕ) (d : Doing p q frame text) → IsDone p q frame text (record { told = d.told; deeds = d.deeds })
+done-of p q frame text d = record { as_frames = d.as_frames; told = d.are_told; comes = d.comes; acts = deeds-act d.deeds (now p) (now q) d.did }
+
+pub answers-are-actions : AnswersAreActions
+answers-are-actions p q frame text h = let d = doing p q frame text h in (record { told = d.told; deeds = d.deeds }, done-of p q frame text d)

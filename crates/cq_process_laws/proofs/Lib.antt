@@ -1,0 +1,5 @@
+pub mod Moments
+pub mod Acting
+pub mod Turning
+pub mod Answering
+pub mod Running

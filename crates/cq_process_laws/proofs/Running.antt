@@ -1,0 +1,66 @@
+-- What is done of frames one after another, as deeds.
+use Rattle.std.proofs.Common.{◌≡◌, ℕ, ◌∙◌, ap, sym, refl, subst, List, [], ◌∷◌, ◌++◌, Option, Some, None, inl, inr}
+use Rattle.std.proofs.lemmas.List.Concat.{flat_map-append}
+use Rattle.cq_base.specs.declared.party.Party.{Party}
+use Rattle.cq_chain.specs.declared.message.Message as rust
+use Rattle.cq_chain.specs.Messages.{Message}
+use Rattle.cq_chain.specs.Servers as states
+use Rattle.cq_chain.specs.Stands as chain
+use Rattle.cq_events.specs.Actions.{Action, CoreState, Keeps, Run, ServerRun, StandsAs, behind, Heads}
+use Rattle.cq_chain.specs.declared.server.Server as rust_server
+use Rattle.cq_events.specs.Acts.{ServerActs}
+use Rattle.cq_frame_loop.specs.Chains.{IsChain, Step}
+use Rattle.cq_process.specs.Links.{held_at, held_by}
+use Rattle.cq_server_process.specs.declared.process.ServerProcess.{ServerProcess}
+use Rattle.cq_server_process.specs.Answers.{IsNewProcess, State}
+use Rattle.cq_server_process.specs.Processes.{answers}
+use Rattle.cq_process_laws.specs.Deeds.{Deed}
+use Rattle.cq_process_laws.specs.Laws.{RunsAreActions}
+use Rattle.cq_process_laws.specs.Runs.{AreDone, Done, IsRun, all_actions, core_of, deeds_in, state_of}
+use Rattle.cq_process_laws.proofs.Acting.{deeds-act, did-both}
+use Rattle.cq_process_laws.proofs.Answering.{Doing, doing, done-of}
+use Rattle.cq_process_laws.proofs.Moments.{DidAll, now}
+
+-- what is done of all, by deeds
+pub record AllDone (p : State) (steps : List (Step ServerProcess)) (q : State) : Type 0 where
+  pub done : List Done
+  pub each : AreDone p steps done
+  pub did : DidAll (now p) (deeds_in done) (now q)
+
+all-done : (first last : ServerProcess) (steps : List (Step ServerProcess)) → IsChain answers first steps last → AllDone (state_of first) steps (state_of last)
+all-done first last [] h = record { done = []; each = tt; did = ap (λ (p : ServerProcess). now (state_of p)) h }
+all-done first last (step ∷ steps) h =
+    let one = doing (state_of first) (state_of step.after) step.frame step.text h.0 in
+    let rest = all-done step.after last steps h.1 in
+    record {
+      done = record { told = one.told; deeds = one.deeds } ∷ rest.done;
+      each = (done-of (state_of first) (state_of step.after) step.frame step.text one, rest.each);
+      did = did-both one.deeds (deeds_in rest.done) (now (state_of first)) (now (state_of step.after)) (now (state_of last)) one.did rest.did;
+    }
+
+-- at first nothing is held
+stands-first : (s : states.Server) (p : State) → IsNewProcess s p → StandsAs (core_of p) s (λ _. [])
+stands-first s p new = (subst (chain.StandsFor p.core s) (λ i to. none to i) new.core, λ to. subst (λ o. Heads o []) (sym (held to)) tt) where
+  held : (to : Party) → held_by p.links.outgoing to ≡ None
+  held to = ap held_at (new.outgoing to)
+
+  none : (to : Party) → [] ≡ behind (held_by p.links.outgoing to) []
+  none to = ap (λ o. behind o []) (sym (held to))
+
+-- what wasn't refused was done
+plain : (actions : List Action) (a b : CoreState rust_server.Server) → ServerActs a actions b → ServerRun a actions b
+plain [] a b h = h
+plain (d ∷ ds) a b h = (h.0, h.1.0, plain ds h.0 b h.2)
+
+pub runs-are-actions : RunsAreActions
+runs-are-actions s first last steps new chain =
+    let all = all-done first last steps chain in
+    let stands = stands-first s (state_of first) new in
+    let acts = deeds-act (deeds_in all.done) (now (state_of first)) (now (state_of last)) all.did in
+    record {
+      done = all.done;
+      each = all.each;
+      stands = stands;
+      acts = acts;
+      lives = inr (core_of (state_of first), core_of (state_of last), stands, plain (all_actions all.done) (core_of (state_of first)) (core_of (state_of last)) acts);
+    }

@@ -1,0 +1,77 @@
+-- What a process does, one thing after another: with its core, and with messages whose pieces come and go.
+use Rattle.std.specs.Prelude.{ℕ, List, [], ◌∷◌, map, flat_map, Bool, true, false, ⊤, if◌then◌else◌}
+use Rattle.std.specs.Prelude.{◌≡◌}
+use Rattle.cq_base.specs.declared.party.Party.{Party}
+use Rattle.cq_chain.specs.declared.message.Message as rust
+use Rattle.cq_chain.specs.Parties.{same}
+use Rattle.cq_events.specs.Actions.{Action, Put, Took}
+use Rattle.cq_frames.specs.declared.response.Response.{Response}
+use Rattle.cq_frames.specs.declared.response.Response.TheVariants as responses
+use Rattle.cq_process.specs.Links.{is_gone}
+
+-- One thing that a process does. A piece has the number of its message on the link from or to that party.
+pub data Deed : Type 0 where
+  -- nothing that counts
+  Rested : Deed
+  -- the core does that, of itself
+  Acted : Action → Deed
+  -- a piece came and was read, and more are left of its message
+  Came : Party → ℕ → List ℕ → Deed
+  -- a piece came, and the message was taken, which is read whole
+  Read : Party → ℕ → List ℕ → rust.Message → Deed
+  -- a piece came, and was refused
+  Missed : Party → ℕ → List ℕ → Deed
+  -- that party is gone
+  Lost : Party → Deed
+  -- a piece is told, and more are left of its message
+  Told : Party → ℕ → List ℕ → Deed
+  -- the last piece of the message is told, and the message is put
+  Ended : Party → ℕ → List ℕ → rust.Message → Deed
+  -- the messages for a party that is gone are put and thrown away
+  Threw : Party → List rust.Message → Deed
+
+-- ---- the actions that they are
+
+abbrev pub actions_of : Deed → List Action
+actions_of Rested = []
+actions_of (Acted action) = action ∷ []
+actions_of (Came from number piece) = []
+actions_of (Read from number piece message) = Took from message ∷ []
+actions_of (Missed from number piece) = []
+actions_of (Lost party) = []
+actions_of (Told to number piece) = []
+actions_of (Ended to number piece message) = Put to message ∷ []
+actions_of (Threw to messages) = map (λ x. Put to x) messages
+
+abbrev pub actions_in : List Deed → List Action
+actions_in deeds = flat_map actions_of deeds
+
+-- ---- the responses that tell of them
+
+abbrev pub responses_of : Deed → List Response
+responses_of Rested = []
+responses_of (Acted action) = []
+responses_of (Came from number piece) = []
+responses_of (Read from number piece message) = []
+responses_of (Missed from number piece) = []
+responses_of (Lost party) = []
+responses_of (Told to number piece) = responses.Put to number piece ∷ []
+responses_of (Ended to number piece message) = responses.Put to number piece ∷ []
+responses_of (Threw to messages) = []
+
+abbrev pub responses_in : List Deed → List Response
+responses_in deeds = flat_map responses_of deeds
+
+-- ---- deeds that only put and tell
+
+-- Of these parties, which are gone: pieces for others are told, and messages for those are thrown away.
+abbrev pub Sends : List Party → Deed → Type 0
+Sends gone Rested = ⊤
+Sends gone (Acted action) = ⊥
+Sends gone (Came from number piece) = ⊥
+Sends gone (Read from number piece message) = ⊥
+Sends gone (Missed from number piece) = ⊥
+Sends gone (Lost party) = ⊥
+Sends gone (Told to number piece) = is_gone gone to ≡ false
+Sends gone (Ended to number piece message) = is_gone gone to ≡ false
+Sends gone (Threw to messages) = is_gone gone to ≡ true

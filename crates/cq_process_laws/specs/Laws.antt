@@ -1,0 +1,16 @@
+-- The statements of the laws.
+use Rattle.std.specs.Prelude.{ℕ, List, Option}
+use Rattle.cq_chain.specs.Servers as states
+use Rattle.cq_frame_loop.specs.Chains.{IsChain, Step}
+use Rattle.cq_server_process.specs.declared.process.ServerProcess.{ServerProcess}
+use Rattle.cq_server_process.specs.Answers.{Answers, IsNewProcess, State}
+use Rattle.cq_server_process.specs.Processes.{answers}
+use Rattle.cq_process_laws.specs.Runs.{Done, IsDone, IsRun, state_of}
+
+-- What a process does of a frame are actions of its core, and all pieces are told.
+abbrev pub AnswersAreActions : Type 0
+AnswersAreActions = (p q : State) (frame : Option (List ℕ)) (text : List ℕ) → Answers p frame text q → (one : Done) × IsDone p q frame text one
+
+-- So is what a new process does of frames one after another.
+abbrev pub RunsAreActions : Type 0
+RunsAreActions = (s : states.Server) (first last : ServerProcess) (steps : List (Step ServerProcess)) → IsNewProcess s (state_of first) → IsChain answers first steps last → IsRun s (state_of first) steps (state_of last)

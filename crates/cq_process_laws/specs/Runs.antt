@@ -1,0 +1,134 @@
+-- What a process did of a frame, and of frames one after another.
+use Rattle.std.specs.Prelude.{◌≡◌, ℕ, List, [], ◌∷◌, ◌++◌, flat_map, Option, None, Some, Bool, true, false, ⊤, ◌⊎◌, Ok, if◌then◌else◌}
+use Rattle.std.specs.List.{AllByRecursion}
+use Rattle.cq_base.specs.declared.party.Party.{Party}
+use Rattle.cq_base.specs.declared.party.Party.TheVariants as parties
+use Rattle.cq_chain.specs.declared.message.Message as rust
+use Rattle.cq_chain.specs.declared.server.Server as rust_server
+use Rattle.cq_chain.specs.Servers as states
+use Rattle.cq_events.specs.Actions.{Action, Arrived, Asked, CoreState, ServerLives, StandsAs}
+use Rattle.cq_events.specs.Acts.{ServerActs}
+use Rattle.cq_frame_loop.specs.Chains.{Step}
+use Rattle.cq_frames.specs.declared.command.Command.{Command}
+use Rattle.cq_frames.specs.declared.command.Command.TheVariants as commands
+use Rattle.cq_frames.specs.declared.response.Response.{Response}
+use Rattle.cq_frames.specs.declared.response.Response.TheVariants as responses
+use Rattle.cq_frames.specs.declared.response.Standing.{Standing}
+use Rattle.cq_frames.specs.Reading.{command_at}
+use Rattle.cq_process.specs.Links.{held_by}
+use Rattle.cq_server_process.specs.declared.process.ServerProcess.{ServerProcess}
+use Rattle.cq_server_process.specs.Answers.{State, state}
+use Rattle.cq_server_process.specs.Turns.{frames}
+use Rattle.cq_wire.specs.Reading.{whole_at}
+use Rattle.cq_process_laws.specs.Deeds.{Acted, Came, Deed, Lost, Missed, Read, Rested, Sends, actions_in, responses_in}
+
+-- the core of a process, with the messages that are being written
+abbrev pub core_of : State → CoreState rust_server.Server
+core_of p = record { core = p.core; back = held_by p.links.outgoing }
+
+-- what a process has
+abbrev pub state_of : ServerProcess → State
+state_of process = state process.links process.core
+
+-- ---- the command
+
+-- what comes of a command by itself
+abbrev pub BeginsWith : Command → List Deed → Type 0
+BeginsWith (commands.Arrive clock request) first = first ≡ Acted (Arrived clock request) ∷ []
+BeginsWith (commands.Ask query) first = first ≡ Acted (Asked query) ∷ []
+BeginsWith (commands.Take from number piece) first = (first ≡ Came from number piece ∷ []) ⊎ ((message : rust.Message) × (first ≡ Read from number piece message ∷ []))
+BeginsWith (commands.Gone server) first = first ≡ Lost (parties.Server server) ∷ []
+BeginsWith (commands.More to) first = first ≡ []
+BeginsWith (commands.Detect server) first = ⊥
+BeginsWith (commands.Join server) first = ⊥
+BeginsWith commands.Save first = ⊥
+BeginsWith (commands.Load chunk) first = ⊥
+
+-- what comes of one that is refused
+abbrev pub IsRefusedWith : Command → List Deed → Type 0
+IsRefusedWith (commands.Take from number piece) deeds = deeds ≡ Missed from number piece ∷ []
+IsRefusedWith other deeds = deeds ≡ Rested ∷ []
+
+-- A command is carried out: what it is comes first, and then puts. All that came of it was told.
+pub record IsCarriedOut (gone : List Party) (bytes : List ℕ) (told : List Response) (deeds : List Deed) : Type 0 where
+  pub command : Command
+  pub read : whole_at command_at bytes ≡ Ok command
+  pub first : List Deed
+  pub later : List Deed
+  pub is : deeds ≡ first ++ later
+  pub begins : BeginsWith command first
+  pub before : List Response
+  pub standing : Standing
+  pub ends : told ≡ before ++ responses.Done standing ∷ []
+  pub sends : AllByRecursion (Sends gone) later
+
+-- Or it is refused.
+pub record IsRefusal (bytes : List ℕ) (told : List Response) (deeds : List Deed) : Type 0 where
+  pub command : Command
+  pub read : whole_at command_at bytes ≡ Ok command
+  pub code : ℕ
+  pub is : told ≡ responses.Refused code ∷ []
+  pub refused : IsRefusedWith command deeds
+
+-- Or it wasn't read, for its bytes or for want of memory: that is told, and nothing is done.
+pub record IsPassedOver (told : List Response) (deeds : List Deed) : Type 0 where
+  pub code : ℕ
+  pub is : (told ≡ responses.Refused code ∷ []) ⊎ (told ≡ responses.Unread code ∷ [])
+  pub nothing : deeds ≡ []
+
+abbrev pub ComesOf : List Party → Option (List ℕ) → List Response → List Deed → Type 0
+ComesOf gone None told deeds = IsPassedOver told deeds
+ComesOf gone (Some bytes) told deeds = IsCarriedOut gone bytes told deeds ⊎ (IsRefusal bytes told deeds ⊎ IsPassedOver told deeds)
+
+-- ---- what is told
+
+-- no response tells of a piece
+abbrev pub TellsNoPiece : Response → Type 0
+TellsNoPiece (responses.Put to number piece) = ⊥
+TellsNoPiece other = ⊤
+
+-- Each piece is told, in order, and no other one.
+pub record AreTold (told : List Response) (deeds : List Deed) : Type 0 where
+  pub end : List Response
+  pub is : told ≡ responses_in deeds ++ end
+  pub none : AllByRecursion TellsNoPiece end
+
+-- ---- of a frame
+
+-- what was told of a frame, and what was done
+pub record Done : Type 0 where
+  pub told : List Response
+  pub deeds : List Deed
+
+-- From one state to the other that was done of a frame, and told by that text.
+pub record IsDone (p q : State) (frame : Option (List ℕ)) (text : List ℕ) (one : Done) : Type 0 where
+  pub as_frames : text ≡ frames one.told
+  pub told : AreTold one.told one.deeds
+  pub comes : ComesOf q.links.gone.keys frame one.told one.deeds
+  pub acts : ServerActs (core_of p) (actions_in one.deeds) (core_of q)
+
+-- ---- of frames one after another
+
+-- each of these was done of the frame of its step
+abbrev pub AreDone : State → List (Step ServerProcess) → List Done → Type 0
+AreDone p [] [] = ⊤
+AreDone p [] (one ∷ rest) = ⊥
+AreDone p (step ∷ steps) [] = ⊥
+AreDone p (step ∷ steps) (one ∷ rest) = IsDone p (state_of step.after) step.frame step.text one × AreDone (state_of step.after) steps rest
+
+-- all that was done
+abbrev pub deeds_in : List Done → List Deed
+deeds_in done = flat_map (λ one. one.deeds) done
+
+-- and the actions that it was
+abbrev pub all_actions : List Done → List Action
+all_actions done = actions_in (deeds_in done)
+
+-- What a process did that was new, with a server that stood for that.
+pub record IsRun (s : states.Server) (first : State) (steps : List (Step ServerProcess)) (last : State) : Type 0 where
+  pub done : List Done
+  pub each : AreDone first steps done
+  -- its actions are those of its core, which refused none
+  pub stands : StandsAs (core_of first) s (λ _. [])
+  pub acts : ServerActs (core_of first) (all_actions done) (core_of last)
+  pub lives : ServerLives s (λ _. []) (all_actions done)
