@@ -33,7 +33,7 @@ use Rattle.cq_process_laws.specs.Laws.{AnswersAreActions}
 use Rattle.cq_process_laws.specs.Runs.{AreTold, BeginsWith, ComesOf, IsCarriedOut, IsDone, IsPassedOver, IsRefusal, IsRefusedWith, TellsNoPiece}
 use Rattle.cq_process_laws.specs.Deeds as rules
 use Rattle.cq_process_laws.proofs.Acting.{deeds-act, did-both, kept-from}
-use Rattle.cq_process_laws.proofs.Moments.{ByItself, Comes, Did, DidAll, IsLetGo, IsRead, Loses, Misses, Now, OnlyFrom, Rests, Stays, core_now, now, with_at}
+use Rattle.cq_process_laws.proofs.Moments.{ByItself, Comes, Did, DidAll, IsLetGo, IsOwn, IsRead, Loses, Misses, Now, OnlyFrom, Rests, Stays, core_now, now, with_at}
 use Rattle.cq_process_laws.proofs.Turning.{Makes, all-both, all-turn, makes-both, makes-none, responses-both, rests-same, sent, thrown-from}
 
 -- What is done of a frame, by deeds from one state to the other.
@@ -176,12 +176,12 @@ pub record Begun (command : Command) (p q : State) (told : List Response) : Type
   pub quiet : responses_in first ≡ []
   pub makes : Makes mid (now q) told
 
-beside-begun : (command : Command) (action : Action) (p q : State) (told : List Response) → told ≡ [] → BeginsWith command (Acted action ∷ []) → Beside action p q → Begun command p q told
-beside-begun command action p q told none begins h = record {
+beside-begun : (command : Command) (action : Action) (p q : State) (told : List Response) → told ≡ [] → BeginsWith command (Acted action ∷ []) → IsOwn action → Beside action p q → Begun command p q told
+beside-begun command action p q told none begins own h = record {
   first = Acted action ∷ [];
   begins = begins;
   mid = now q;
-  did = (now q, (record { does = h.does; outgoing = ap (λ l. l.outgoing) h.links; incoming = ap (λ l. l.incoming) h.links; gone = ap (λ l. l.gone.keys) h.links }, refl));
+  did = (now q, (record { own = own; does = h.does; outgoing = ap (λ l. l.outgoing) h.links; incoming = ap (λ l. l.incoming) h.links; gone = ap (λ l. l.gone.keys) h.links }, refl));
   quiet = refl;
   makes = makes-none (now q) (now q) told refl none;
 }
@@ -240,8 +240,8 @@ more-begun to p q told before h = record {
 }
 
 happens-begun : (command : Command) (p q : State) (told : List Response) (before : Option Party) → Happens command p q told before → Begun command p q told
-happens-begun (commands.Arrive clock request) p q told before h = beside-begun (commands.Arrive clock request) (Arrived clock request) p q told h.0 refl h.1.1
-happens-begun (commands.Ask query) p q told before h = beside-begun (commands.Ask query) (Asked query) p q told h.0 refl h.1.1
+happens-begun (commands.Arrive clock request) p q told before h = beside-begun (commands.Arrive clock request) (Arrived clock request) p q told h.0 refl tt h.1.1
+happens-begun (commands.Ask query) p q told before h = beside-begun (commands.Ask query) (Asked query) p q told h.0 refl tt h.1.1
 happens-begun (commands.Take from number piece) p q told before h = takes-begun from number piece p q told h.0 h.1.1
 happens-begun (commands.Gone server) p q told before h = away-begun server p q told h.0 h.1.1
 happens-begun (commands.More to) p q told before h = more-begun to p q told before h

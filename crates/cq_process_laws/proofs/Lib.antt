@@ -2,4 +2,7 @@ pub mod Moments
 pub mod Acting
 pub mod Turning
 pub mod Answering
+pub mod Numbering
+pub mod Leaving
+pub mod Coming
 pub mod Running

@@ -7,7 +7,7 @@ use Rattle.cq_chain.specs.declared.server.Server as rust_server
 use Rattle.cq_chain.specs.Stands as chain
 use Rattle.cq_chain_wire.specs.declared.reader.Progress.{Progress}
 use Rattle.cq_chain_wire.specs.declared.reader.Progress.TheVariants.{More, Whole}
-use Rattle.cq_events.specs.Actions.{Action, CoreState, Keeps, StandsAs}
+use Rattle.cq_events.specs.Actions.{Action, Arrived, Asked, Crashed, Detected, Joined, Put, Took, CoreState, Keeps, StandsAs}
 use Rattle.cq_events.specs.Acts.{ServerActs}
 use Rattle.cq_process.specs.declared.incoming.Incoming.{Incoming}
 use Rattle.cq_process.specs.Asking.{ActsBeside}
@@ -52,8 +52,19 @@ pub record Stays (a b : Now) : Type 0 where
   pub incoming : b.incoming ≡ a.incoming
   pub gone : b.gone ≡ a.gone
 
+-- an action that has to do with no link
+abbrev pub IsOwn : Action → Type 0
+IsOwn (Arrived clock request) = ⊤
+IsOwn (Asked query) = ⊤
+IsOwn (Put to x) = ⊥
+IsOwn (Took from x) = ⊥
+IsOwn (Crashed count) = ⊥
+IsOwn (Detected id) = ⊥
+IsOwn (Joined id) = ⊥
+
 -- All stays but the core.
 pub record ByItself (action : Action) (a b : Now) : Type 0 where
+  pub own : IsOwn action
   pub does : (back : Party → Option rust.Message) → ActsBeside action a.core b.core back
   pub outgoing : b.outgoing ≡ a.outgoing
   pub incoming : b.incoming ≡ a.incoming

@@ -1,24 +1,30 @@
 -- What is done of frames one after another, as deeds.
-use Rattle.std.proofs.Common.{◌≡◌, ℕ, ◌∙◌, ap, sym, refl, subst, List, [], ◌∷◌, ◌++◌, Option, Some, None, inl, inr}
+use Rattle.std.proofs.Common.{◌≡◌, ℕ, ◌∙◌, ap, sym, refl, subst, List, [], ◌∷◌, ◌++◌, append-nil, Option, Some, None, inl, inr}
+use Rattle.std.specs.List.{AllByRecursion}
 use Rattle.std.proofs.lemmas.List.Concat.{flat_map-append}
 use Rattle.cq_base.specs.declared.party.Party.{Party}
 use Rattle.cq_chain.specs.declared.message.Message as rust
 use Rattle.cq_chain.specs.Messages.{Message}
 use Rattle.cq_chain.specs.Servers as states
 use Rattle.cq_chain.specs.Stands as chain
-use Rattle.cq_events.specs.Actions.{Action, CoreState, Keeps, Run, ServerRun, StandsAs, behind, Heads}
+use Rattle.cq_events.specs.Actions.{Action, CoreState, Keeps, Run, ServerRun, StandsAs, behind, Heads, put_to}
 use Rattle.cq_chain.specs.declared.server.Server as rust_server
 use Rattle.cq_events.specs.Acts.{ServerActs}
 use Rattle.cq_frame_loop.specs.Chains.{IsChain, Step}
-use Rattle.cq_process.specs.Links.{held_at, held_by}
+use Rattle.cq_frames.specs.declared.response.Response.{Response}
+use Rattle.cq_frames.specs.declared.response.Response.TheVariants as responses
+use Rattle.cq_process.specs.Links.{held_at, held_by, is_gone}
 use Rattle.cq_server_process.specs.declared.process.ServerProcess.{ServerProcess}
 use Rattle.cq_server_process.specs.Answers.{IsNewProcess, State}
 use Rattle.cq_server_process.specs.Processes.{answers}
-use Rattle.cq_process_laws.specs.Deeds.{Deed}
+use Rattle.cq_process_laws.specs.Deeds.{Deed, responses_in, responses_of}
 use Rattle.cq_process_laws.specs.Laws.{RunsAreActions}
-use Rattle.cq_process_laws.specs.Runs.{AreDone, Done, IsRun, all_actions, core_of, deeds_in, state_of}
+use Rattle.cq_process_laws.specs.Runs.{AreDone, AreTold, Done, IsRun, TellsNoPiece, all_actions, core_of, deeds_in, state_of, told_in}
+use Rattle.cq_process_laws.specs.Passing.{ArePutAsTold, piece_for, pieces_for}
 use Rattle.cq_process_laws.proofs.Acting.{deeds-act, did-both}
 use Rattle.cq_process_laws.proofs.Answering.{Doing, doing, done-of}
+use Rattle.cq_process_laws.proofs.Coming.{were-read}
+use Rattle.cq_process_laws.proofs.Leaving.{put-as-told}
 use Rattle.cq_process_laws.proofs.Moments.{DidAll, now}
 
 -- what is done of all, by deeds
@@ -37,6 +43,32 @@ all-done first last (step ∷ steps) h =
       each = (done-of (state_of first) (state_of step.after) step.frame step.text one, rest.each);
       did = did-both one.deeds (deeds_in rest.done) (now (state_of first)) (now (state_of step.after)) (now (state_of last)) one.did rest.did;
     }
+
+-- ---- what is told
+
+no-piece : (to : Party) (one : Response) → TellsNoPiece one → piece_for to one ≡ []
+no-piece to (responses.Put other number piece) none = absurd none
+no-piece to one none = refl
+
+no-pieces : (to : Party) (told : List Response) → AllByRecursion TellsNoPiece told → pieces_for to told ≡ []
+no-pieces to [] none = refl
+no-pieces to (one ∷ told) none = ap (λ xs. xs ++ pieces_for to told) (no-piece to one none.0) ∙ no-pieces to told none.1
+
+-- the pieces that were told are those of the deeds
+told-pieces : (to : Party) (told : List Response) (deeds : List Deed) → AreTold told deeds → pieces_for to told ≡ pieces_for to (responses_in deeds)
+told-pieces to told deeds h = ap (pieces_for to) h.is ∙ flat_map-append (piece_for to) (responses_in deeds) h.end ∙ ap (λ xs. pieces_for to (responses_in deeds) ++ xs) (no-pieces to h.end h.none) ∙ append-nil (pieces_for to (responses_in deeds))
+
+all-pieces : (to : Party) (p : State) (steps : List (Step ServerProcess)) (done : List Done) → AreDone p steps done → pieces_for to (told_in done) ≡ pieces_for to (responses_in (deeds_in done))
+all-pieces to p [] [] h = refl
+all-pieces to p [] (one ∷ rest) h = absurd h
+all-pieces to p (step ∷ steps) [] h = absurd h
+all-pieces to p (step ∷ steps) (one ∷ rest) h =
+    flat_map-append (piece_for to) one.told (told_in rest) ∙ ap (λ xs. xs ++ pieces_for to (told_in rest)) (told-pieces to one.told one.deeds h.0.told)
+    ∙ ap (λ xs. pieces_for to (responses_in one.deeds) ++ xs) (all-pieces to (state_of step.after) steps rest h.1)
+    ∙ sym (flat_map-append (piece_for to) (responses_in one.deeds) (responses_in (deeds_in rest)))
+    ∙ ap (pieces_for to) (sym (flat_map-append responses_of one.deeds (deeds_in rest)))
+
+-- ---- from a new process on
 
 -- at first nothing is held
 stands-first : (s : states.Server) (p : State) → IsNewProcess s p → StandsAs (core_of p) s (λ _. [])
@@ -63,4 +95,7 @@ runs-are-actions s first last steps new chain =
       stands = stands;
       acts = acts;
       lives = inr (core_of (state_of first), core_of (state_of last), stands, plain (all_actions all.done) (core_of (state_of first)) (core_of (state_of last)) acts);
+      out = λ to. subst (ArePutAsTold (is_gone last.links.gone.keys to) (put_to to (all_actions all.done))) (sym (all-pieces to (state_of first) steps all.done all.each))
+          (put-as-told to (deeds_in all.done) (now (state_of first)) (now (state_of last)) (new.outgoing to) all.did);
+      into = λ from. were-read from (deeds_in all.done) (now (state_of first)) (now (state_of last)) (new.incoming from) all.did;
     }

@@ -1,3 +1,4 @@
 pub mod Deeds
+pub mod Passing
 pub mod Runs
 pub mod Laws

@@ -6,7 +6,7 @@ use Rattle.cq_base.specs.declared.party.Party.TheVariants as parties
 use Rattle.cq_chain.specs.declared.message.Message as rust
 use Rattle.cq_chain.specs.declared.server.Server as rust_server
 use Rattle.cq_chain.specs.Servers as states
-use Rattle.cq_events.specs.Actions.{Action, Arrived, Asked, CoreState, ServerLives, StandsAs}
+use Rattle.cq_events.specs.Actions.{Action, Arrived, Asked, CoreState, ServerLives, StandsAs, put_to, taken_from}
 use Rattle.cq_events.specs.Acts.{ServerActs}
 use Rattle.cq_frame_loop.specs.Chains.{Step}
 use Rattle.cq_frames.specs.declared.command.Command.{Command}
@@ -15,12 +15,13 @@ use Rattle.cq_frames.specs.declared.response.Response.{Response}
 use Rattle.cq_frames.specs.declared.response.Response.TheVariants as responses
 use Rattle.cq_frames.specs.declared.response.Standing.{Standing}
 use Rattle.cq_frames.specs.Reading.{command_at}
-use Rattle.cq_process.specs.Links.{held_by}
+use Rattle.cq_process.specs.Links.{held_by, is_gone}
 use Rattle.cq_server_process.specs.declared.process.ServerProcess.{ServerProcess}
 use Rattle.cq_server_process.specs.Answers.{State, state}
 use Rattle.cq_server_process.specs.Turns.{frames}
 use Rattle.cq_wire.specs.Reading.{whole_at}
 use Rattle.cq_process_laws.specs.Deeds.{Acted, Came, Deed, Lost, Missed, Read, Rested, Sends, actions_in, responses_in}
+use Rattle.cq_process_laws.specs.Passing.{ArePutAsTold, WereRead, pieces_for, tries_from}
 
 -- the core of a process, with the messages that are being written
 abbrev pub core_of : State → CoreState rust_server.Server
@@ -124,6 +125,10 @@ deeds_in done = flat_map (λ one. one.deeds) done
 abbrev pub all_actions : List Done → List Action
 all_actions done = actions_in (deeds_in done)
 
+-- and all that was told
+abbrev pub told_in : List Done → List Response
+told_in done = flat_map (λ one. one.told) done
+
 -- What a process did that was new, with a server that stood for that.
 pub record IsRun (s : states.Server) (first : State) (steps : List (Step ServerProcess)) (last : State) : Type 0 where
   pub done : List Done
@@ -132,3 +137,7 @@ pub record IsRun (s : states.Server) (first : State) (steps : List (Step ServerP
   pub stands : StandsAs (core_of first) s (λ _. [])
   pub acts : ServerActs (core_of first) (all_actions done) (core_of last)
   pub lives : ServerLives s (λ _. []) (all_actions done)
+  -- what it put to a party was told as pieces
+  pub out : (to : Party) → ArePutAsTold (is_gone last.links.gone.keys to) (put_to to (all_actions done)) (pieces_for to (told_in done))
+  -- what it took from a party was read of pieces that came
+  pub into : (from : Party) → WereRead 1 (taken_from from (all_actions done)) (tries_from from (deeds_in done))

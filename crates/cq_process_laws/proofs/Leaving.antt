@@ -1,0 +1,299 @@
+-- What deeds put to a party, and the pieces that they tell for it.
+use Rattle.std.proofs.Common.{◌≡◌, ℕ, ◌+◌, ◌<◌, ◌≤◌, ◌∙◌, ap, sym, refl, subst, cond, List, [], ◌∷◌, ◌++◌, append_assoc, append-nil, length, map, Bool, true, false, Option, Some, None, inl, inr, arith}
+use Rattle.std.specs.Prelude.{◌⊎◌}
+use Rattle.std.proofs.lemmas.Bool.{true≢false}
+use Rattle.std.proofs.lemmas.List.Concat.{flat_map-append}
+use Rattle.cq_base.specs.declared.party.Party.{Party}
+use Rattle.cq_chain.specs.declared.message.Message.{Message}
+use Rattle.cq_chain.specs.Parties.{same}
+use Rattle.cq_chain_wire.specs.declared.writer.MessageWriter.{MessageWriter}
+use Rattle.cq_chain_wire.specs.Pieces.{IsNextPiece}
+use Rattle.cq_events.specs.Actions.{Action, Arrived, Asked, Crashed, Detected, Joined, Put, Took, put_to}
+use Rattle.cq_events.proofs.Parties.{same-true, same-refl, same-turned}
+use Rattle.cq_process.specs.Laws.{AreWritten}
+use Rattle.cq_process.specs.Links.{end_of, is_gone}
+use Rattle.cq_process.specs.Outgoing.{End, IsFresh}
+use Rattle.cq_process.specs.Putting.{IsHeld, WritesPiece}
+use Rattle.cq_process_laws.specs.Deeds.{Acted, Came, Deed, Ended, Lost, Missed, Read, Rested, Threw, Told, actions_in, actions_of, responses_in, responses_of}
+use Rattle.cq_process_laws.specs.Passing.{AreAllOf, AreFrontOf, ArePutAsTold, AreWhole, IsFront, of_number, piece_for, pieces_for}
+use Rattle.cq_process_laws.proofs.Moments.{Did, DidAll, Ends, IsOwn, Now, OnlyTo, Rests, Tells, Throws}
+use Rattle.cq_process_laws.proofs.Numbering.{length-last, number-here, number-there, put-both, puts-here, puts-there}
+use Rattle.cq_process_laws.proofs.Turning.{rests-same}
+
+-- ---- at the end of a link
+
+-- the pieces that were told of the message that is held
+abbrev pub WrittenSo : Option Message → MessageWriter → List (List ℕ) → MessageWriter → Type 0
+WrittenSo None start front writer = (front ≡ []) × (start ≡ writer)
+WrittenSo (Some m) start front writer = AreWritten m start front writer
+
+pub record IsAtEnd (end : End) (count : ℕ) (front : List (List ℕ)) : Type 0 where
+  pub put : end.put ≡ count
+  pub start : MessageWriter
+  pub fresh : IsFresh start
+  pub written : WrittenSo end.held start front end.writer
+  pub more : end.writer.is_done ≡ false
+
+abbrev pub IsAt : Option End → ℕ → List (List ℕ) → Type 0
+IsAt None count front = (count ≡ 0) × (front ≡ [])
+IsAt (Some end) count front = IsAtEnd end count front
+
+-- an end where a message begins
+at-start : (end : End) (count : ℕ) (front : List (List ℕ)) → end.put ≡ count → IsFresh end.writer → front ≡ [] → IsAtEnd end count front
+at-start end count front put fresh none = record { put = put; start = end.writer; fresh = fresh; written = go end.held; more = fresh.begins } where
+  go : (o : Option Message) → WrittenSo o end.writer front end.writer
+  go None = (none, refl)
+  go (Some m) = subst (λ f. AreWritten m end.writer f end.writer) (sym none) refl
+
+held-rests : (o u : Option Message) (start w v : MessageWriter) (front : List (List ℕ)) → ((x : Message) → o ≡ Some x → u ≡ Some x) → v ≡ w → WrittenSo o start front w → WrittenSo u start front v
+held-rests None None start w v front same e h = (h.0, h.1 ∙ sym e)
+held-rests None (Some m) start w v front same e h = subst (λ f. AreWritten m start f v) (sym h.0) (h.1 ∙ sym e)
+held-rests (Some x) u start w v front same e h = subst (λ o. WrittenSo o start front v) (sym (same x refl)) (subst (λ z. AreWritten x start front z) (sym e) h)
+
+at-rests : (o u : Option End) (count : ℕ) (front : List (List ℕ)) → Rests o u → IsAt o count front → IsAt u count front
+at-rests None None count front rests h = h
+at-rests None (Some after) count front rests h = at-start after count front (rests.0 ∙ sym h.0) rests.1 h.1
+at-rests (Some before) None count front rests h = absurd rests
+at-rests (Some before) (Some after) count front rests h = record {
+  put = rests.0 ∙ h.put;
+  start = h.start;
+  fresh = h.fresh;
+  written = held-rests before.held after.held h.start before.writer after.writer front rests.1.1 rests.1.0 h.written;
+  more = ap (λ (w : MessageWriter). w.is_done) rests.1.0 ∙ h.more;
+}
+
+front-so : (o : Option Message) (end : End) (count : ℕ) (front : List (List ℕ)) (h : IsAtEnd end count front) → WrittenSo o h.start front end.writer → IsFront front
+front-so None end count front h written = inl written.0
+front-so (Some m) end count front h written = inr (m, record { start = h.start; fresh = h.fresh; end = end.writer; written = written; more = h.more })
+
+at-front : (end : End) (count : ℕ) (front : List (List ℕ)) → IsAtEnd end count front → IsFront front
+at-front end count front h = front-so end.held end count front h h.written
+
+-- ---- pieces
+
+written-last : (m : Message) (a b c : MessageWriter) (texts : List (List ℕ)) (text : List ℕ) → AreWritten m a texts b → IsNextPiece m b c text → AreWritten m a (texts ++ text ∷ []) c
+written-last m a b c [] text h next = (c, subst (λ w. IsNextPiece m w c text) (sym h) next, refl)
+written-last m a b c (t ∷ texts) text h next = (h.0, h.1, written-last m h.0 b c texts text h.2 next)
+
+held-written : (m : Message) (o : Option Message) (start writer : MessageWriter) (front : List (List ℕ)) → IsHeld o m → WrittenSo o start front writer → AreWritten m start front writer
+held-written m None start writer front same h = subst (λ f. AreWritten m start f writer) (sym h.0) h.1
+held-written m (Some x) start writer front same h = subst (λ y. AreWritten y start front writer) (sym (same x refl)) h
+
+-- the next piece behind those that were told
+piece-behind : (m : Message) (end : End) (count : ℕ) (front : List (List ℕ)) (after : MessageWriter) (is_last : Bool) (piece : List ℕ) (h : IsAtEnd end count front) → IsHeld end.held m → WritesPiece m end.writer after is_last [] piece
+    → AreWritten m h.start (front ++ piece ∷ []) after
+piece-behind m end count front after is_last piece h same w = written-last m h.start end.writer after front piece (held-written m end.held h.start end.writer front same h.written) (subst (λ t. IsNextPiece m end.writer after t) (sym w.bytes) w.piece)
+
+whole-same : (k : ℕ) (ms : List Message) (old new : List (ℕ × List ℕ)) → ((j : ℕ) → j < k + length ms → of_number j new ≡ of_number j old) → AreWhole k ms old → AreWhole k ms new
+whole-same k [] old new same h = tt
+whole-same k (m ∷ ms) old new same h = (subst (AreAllOf m) (sym (same k (omega arith))) h.0, whole-same (k + 1) ms old new (λ j below. same j (omega (arith, below))) h.1)
+
+whole-last : (k : ℕ) (ms : List Message) (m : Message) (pieces : List (ℕ × List ℕ)) → AreWhole k ms pieces → AreAllOf m (of_number (k + length ms) pieces) → AreWhole k (ms ++ m ∷ []) pieces
+whole-last k [] m pieces h all = let same : k + 0 ≡ k = omega arith in (subst (λ n. AreAllOf m (of_number n pieces)) same all, tt)
+whole-last k (x ∷ ms) m pieces h all =
+    let same : k + length (x ∷ ms) ≡ (k + 1) + length ms = omega arith in
+    (h.0, whole-last (k + 1) ms m pieces h.1 (subst (λ n. AreAllOf m (of_number n pieces)) same all))
+
+-- ---- what was put and told so far
+
+pub record Left (to : Party) (a : Now) (messages : List Message) (pieces : List (ℕ × List ℕ)) : Type 0 where
+  pub whole : List Message
+  pub thrown : List Message
+  pub are : messages ≡ whole ++ thrown
+  pub lives : is_gone a.gone to ≡ false → (thrown ≡ []) × IsAt (end_of a.outgoing to) (length whole) (of_number (length whole + 1) pieces)
+  pub each : AreWhole 1 whole pieces
+  pub front : IsFront (of_number (length whole + 1) pieces)
+  pub before : of_number 0 pieces ≡ []
+  pub behind : (k : ℕ) → length whole + 1 < k → of_number k pieces ≡ []
+
+-- nothing more of either
+same-lists : (to : Party) (a : Now) (ms : List Message) (ps : List (ℕ × List ℕ)) → Left to a ms ps → Left to a (ms ++ []) (ps ++ [])
+same-lists to a ms ps h = subst (λ xs. Left to a xs (ps ++ [])) (sym (append-nil ms)) (subst (λ xs. Left to a ms xs) (sym (append-nil ps)) h)
+
+module _ (to : Party) (a b : Now) (ms : List Message) (ps : List (ℕ × List ℕ)) (h : Left to a ms ps) where
+  left-rests : (is_gone b.gone to ≡ false → is_gone a.gone to ≡ false) → Rests (end_of a.outgoing to) (end_of b.outgoing to) → Left to b (ms ++ []) (ps ++ [])
+  left-rests lives rests = same-lists to b ms ps (record {
+    whole = h.whole;
+    thrown = h.thrown;
+    are = h.are;
+    lives = λ here. let k = h.lives (lives here) in (k.0, at-rests (end_of a.outgoing to) (end_of b.outgoing to) (length h.whole) (of_number (length h.whole + 1) ps) rests k.1);
+    each = h.each;
+    front = h.front;
+    before = h.before;
+    behind = h.behind;
+  })
+
+  -- nothing happens to the link
+  left-same : b.gone ≡ a.gone → b.outgoing ≡ a.outgoing → Left to b (ms ++ []) (ps ++ [])
+  left-same gone outgoing = left-rests (λ here. subst (λ g. is_gone g to ≡ false) gone here) (subst (λ ends. Rests (end_of a.outgoing to) (end_of ends to)) (sym outgoing) (rests-same (end_of a.outgoing to)))
+
+  left-other : (other : Party) → same other to ≡ false → OnlyTo other a b → Left to b (ms ++ []) (ps ++ [])
+  left-other other apart only = left-rests (λ here. subst (λ g. is_gone g to ≡ false) only.gone here) (subst (λ o. Rests (end_of a.outgoing to) o) (sym (only.others to apart)) (rests-same (end_of a.outgoing to)))
+
+  -- a piece more is told
+  module _ (number : ℕ) (piece : List ℕ) where
+    -- of other numbers there are no more
+    told-there : (k : ℕ) → (k ≡ number → ⊥) → of_number k (ps ++ (number, piece) ∷ []) ≡ of_number k ps
+    told-there k apart = number-there k number ps piece apart
+
+    left-told : Tells to number piece a b → Left to b (ms ++ []) (ps ++ (number, piece) ∷ [])
+    left-told t = subst (λ xs. Left to b xs (ps ++ (number, piece) ∷ [])) (sym (append-nil ms)) (record {
+      whole = h.whole;
+      thrown = h.thrown;
+      are = h.are;
+      lives = λ here. (k.0, subst (λ o. IsAt o (length h.whole) (of_number (length h.whole + 1) (ps ++ (number, piece) ∷ []))) (sym t.is_new) now);
+      each = whole-same 1 h.whole ps (ps ++ (number, piece) ∷ []) (λ j below. told-there j (λ is. omega (arith, below, is, number_is))) h.each;
+      front = at-front t.becomes (length h.whole) (of_number (length h.whole + 1) (ps ++ (number, piece) ∷ [])) now;
+      before = told-there 0 (λ is. omega (arith, is, number_is)) ∙ h.before;
+      behind = λ j above. told-there j (λ is. omega (arith, above, is, number_is)) ∙ h.behind j above;
+    }) where
+      k : (h.thrown ≡ []) × IsAt (end_of a.outgoing to) (length h.whole) (of_number (length h.whole + 1) ps)
+      k = h.lives t.lives
+
+      was : IsAtEnd t.was (length h.whole) (of_number (length h.whole + 1) ps)
+      was = subst (λ o. IsAt o (length h.whole) (of_number (length h.whole + 1) ps)) t.is_old k.1
+
+      number_is : number ≡ length h.whole + 1
+      number_is = t.number_is ∙ ap (λ n. n + 1) was.put
+
+      now : IsAtEnd t.becomes (length h.whole) (of_number (length h.whole + 1) (ps ++ (number, piece) ∷ []))
+      now = record {
+        put = t.put ∙ was.put;
+        start = was.start;
+        fresh = was.fresh;
+        written = subst (λ o. WrittenSo o was.start (of_number (length h.whole + 1) (ps ++ (number, piece) ∷ [])) t.becomes.writer) (sym t.writes.held)
+            (subst (λ f. AreWritten t.writes.message was.start f t.becomes.writer) (sym (number-here (length h.whole + 1) number ps piece (sym number_is)))
+            (piece-behind t.writes.message t.was (length h.whole) (of_number (length h.whole + 1) ps) t.becomes.writer false piece was t.writes.same t.writes.written));
+        more = t.writes.written.last;
+      }
+
+    -- the last piece is told, and the message is put
+    left-ended : (message : Message) → Ends to number piece message a b → Left to b (ms ++ message ∷ []) (ps ++ (number, piece) ∷ [])
+    left-ended message t = record {
+      whole = h.whole ++ message ∷ [];
+      thrown = [];
+      are = ap (λ xs. xs ++ message ∷ []) (h.are ∙ ap (λ xs. h.whole ++ xs) k.0 ∙ append-nil h.whole) ∙ sym (append-nil (h.whole ++ message ∷ []));
+      lives = λ here. (
+        refl,
+        subst (λ o. IsAt o (length (h.whole ++ message ∷ [])) (of_number (length (h.whole ++ message ∷ []) + 1) all)) (sym t.is_new)
+            (at-start t.becomes (length (h.whole ++ message ∷ [])) (of_number (length (h.whole ++ message ∷ []) + 1) all) (t.put ∙ ap (λ n. n + 1) was.put ∙ sym (length-last h.whole message)) t.writes.fresh next),
+      );
+      each = whole-last 1 h.whole message all (whole-same 1 h.whole ps all (λ j below. told-there j (λ is. omega (arith, below, is, number_is))) h.each) (subst (λ n. AreAllOf message (of_number n all)) turned ended);
+      front = inl next;
+      before = told-there 0 (λ is. omega (arith, is, number_is)) ∙ h.before;
+      behind = λ j above. told-there j (λ is. omega (arith, above, is, number_is, length-last h.whole message)) ∙ h.behind j (omega (arith, above, length-last h.whole message));
+    } where
+      all : List (ℕ × List ℕ)
+      all = ps ++ (number, piece) ∷ []
+
+      k : (h.thrown ≡ []) × IsAt (end_of a.outgoing to) (length h.whole) (of_number (length h.whole + 1) ps)
+      k = h.lives t.lives
+
+      was : IsAtEnd t.was (length h.whole) (of_number (length h.whole + 1) ps)
+      was = subst (λ o. IsAt o (length h.whole) (of_number (length h.whole + 1) ps)) t.is_old k.1
+
+      number_is : number ≡ length h.whole + 1
+      number_is = t.number_is ∙ ap (λ n. n + 1) was.put
+
+      turned : length h.whole + 1 ≡ 1 + length h.whole
+      turned = omega arith
+
+      next : of_number (length (h.whole ++ message ∷ []) + 1) all ≡ []
+      next = told-there (length (h.whole ++ message ∷ []) + 1) (λ is. omega (arith, is, number_is, length-last h.whole message)) ∙ h.behind (length (h.whole ++ message ∷ []) + 1) (omega (arith, length-last h.whole message))
+
+      ended : AreAllOf message (of_number (length h.whole + 1) all)
+      ended = record {
+        start = was.start;
+        fresh = was.fresh;
+        end = t.writes.writer;
+        written = subst (λ f. AreWritten message was.start f t.writes.writer) (sym (number-here (length h.whole + 1) number ps piece (sym number_is)))
+            (subst (λ m. AreWritten m was.start (of_number (length h.whole + 1) ps ++ piece ∷ []) t.writes.writer) t.message_is
+            (piece-behind t.writes.message t.was (length h.whole) (of_number (length h.whole + 1) ps) t.writes.writer true piece was t.writes.same t.writes.written));
+        last = t.writes.written.last;
+      }
+
+  -- messages are thrown away
+  left-threw : (messages : List Message) → is_gone a.gone to ≡ true → b.gone ≡ a.gone → Left to b (ms ++ messages) (ps ++ [])
+  left-threw messages away gone = subst (λ xs. Left to b (ms ++ messages) xs) (sym (append-nil ps)) (record {
+    whole = h.whole;
+    thrown = h.thrown ++ messages;
+    are = ap (λ xs. xs ++ messages) h.are ∙ append_assoc h.whole h.thrown messages;
+    lives = λ here. absurd (true≢false (sym away ∙ subst (λ g. is_gone g to ≡ false) gone here));
+    each = h.each;
+    front = h.front;
+    before = h.before;
+    behind = h.behind;
+  })
+
+-- ---- deeds
+
+left-acted : (to : Party) (a b : Now) (ms : List Message) (ps : List (ℕ × List ℕ)) (action : Action) → IsOwn action → Left to b (ms ++ []) (ps ++ []) → Left to b (ms ++ put_to to (action ∷ [])) (ps ++ [])
+left-acted to a b ms ps (Arrived clock request) own h = h
+left-acted to a b ms ps (Asked query) own h = h
+left-acted to a b ms ps (Put other x) own h = absurd own
+left-acted to a b ms ps (Took from x) own h = absurd own
+left-acted to a b ms ps (Crashed count) own h = absurd own
+left-acted to a b ms ps (Detected id) own h = absurd own
+left-acted to a b ms ps (Joined id) own h = absurd own
+
+-- who isn't gone then wasn't before
+pub lived : (to party : Party) (old new : List Party) → (is_gone new to ≡ (cond (same party to) true (is_gone old to))) → is_gone new to ≡ false → is_gone old to ≡ false
+lived to party old new is here = go (same party to) (sym is ∙ here) where
+  go : (t : Bool) → cond t true (is_gone old to) ≡ false → is_gone old to ≡ false
+  go true e = absurd (true≢false e)
+  go false e = e
+
+left-by : (to : Party) (deed : Deed) (a b : Now) (ms : List Message) (ps : List (ℕ × List ℕ)) → Did deed a b → Left to a ms ps → Left to b (ms ++ put_to to (actions_of deed)) (ps ++ pieces_for to (responses_of deed))
+left-by to Rested a b ms ps d h = left-rests to a b ms ps h (λ here. subst (λ g. is_gone g to ≡ false) d.gone here) (d.outgoing to)
+left-by to (Acted action) a b ms ps d h = left-acted to a b ms ps action d.own (left-same to a b ms ps h d.gone d.outgoing)
+left-by to (Came from number piece) a b ms ps d h = left-same to a b ms ps h d.only.gone d.only.outgoing
+left-by to (Read from number piece message) a b ms ps d h = left-same to a b ms ps h d.only.gone d.only.outgoing
+left-by to (Missed from number piece) a b ms ps d h = left-same to a b ms ps h d.only.gone d.only.outgoing
+left-by to (Lost party) a b ms ps d h = left-rests to a b ms ps h (lived to party a.gone b.gone (d.gone to)) (subst (λ ends. Rests (end_of a.outgoing to) (end_of ends to)) (sym d.outgoing) (rests-same (end_of a.outgoing to)))
+left-by to (Told other number piece) a b ms ps d h = go (same to other) refl where
+  go : (t : Bool) → same to other ≡ t → Left to b (ms ++ []) (ps ++ (cond t ((number, piece) ∷ []) [] ++ []))
+  go true e = left-told to a b ms ps h number piece (subst (λ x. Tells x number piece a b) (sym (same-true to other e)) d)
+  go false e = left-other to a b ms ps h other (same-turned other to ∙ e) d.only
+left-by to (Ended other number piece message) a b ms ps d h = go (same to other) refl where
+  go : (t : Bool) → same to other ≡ t → Left to b (ms ++ (cond t (message ∷ []) [] ++ [])) (ps ++ (cond t ((number, piece) ∷ []) [] ++ []))
+  go true e = left-ended to a b ms ps h number piece message (subst (λ x. Ends x number piece message a b) (sym (same-true to other e)) d)
+  go false e = left-other to a b ms ps h other (same-turned other to ∙ e) d.only
+left-by to (Threw other messages) a b ms ps d h = go (same to other) refl where
+  go : (t : Bool) → same to other ≡ t → Left to b (ms ++ put_to to (map (λ x. Put other x) messages)) (ps ++ [])
+  go true e = subst (λ xs. Left to b (ms ++ xs) (ps ++ [])) (sym (puts-here to other messages e)) (left-threw to a b ms ps h messages (subst (λ x. is_gone a.gone x ≡ true) (sym (same-true to other e)) d.gone) d.only.gone)
+  go false e = subst (λ xs. Left to b (ms ++ xs) (ps ++ [])) (sym (puts-there to other messages e)) (left-other to a b ms ps h other (same-turned other to ∙ e) d.only)
+
+-- those of one and of the others behind it are those of all
+left-joined : (to : Party) (b : Now) (deed : Deed) (deeds : List Deed) (ms : List Message) (ps : List (ℕ × List ℕ)) → Left to b ((ms ++ put_to to (actions_of deed)) ++ put_to to (actions_in deeds)) ((ps ++ pieces_for to (responses_of deed)) ++ pieces_for to (responses_in deeds))
+    → Left to b (ms ++ put_to to (actions_in (deed ∷ deeds))) (ps ++ pieces_for to (responses_in (deed ∷ deeds)))
+left-joined to b deed deeds ms ps h =
+    subst (λ xs. Left to b xs (ps ++ pieces_for to (responses_in (deed ∷ deeds)))) puts (subst (λ xs. Left to b ((ms ++ put_to to (actions_of deed)) ++ put_to to (actions_in deeds)) xs) pieces h)
+  where
+    puts : (ms ++ put_to to (actions_of deed)) ++ put_to to (actions_in deeds) ≡ ms ++ put_to to (actions_in (deed ∷ deeds))
+    puts = append_assoc ms (put_to to (actions_of deed)) (put_to to (actions_in deeds)) ∙ ap (λ xs. ms ++ xs) (sym (put-both to (actions_of deed) (actions_in deeds)))
+
+    pieces : (ps ++ pieces_for to (responses_of deed)) ++ pieces_for to (responses_in deeds) ≡ ps ++ pieces_for to (responses_in (deed ∷ deeds))
+    pieces = append_assoc ps (pieces_for to (responses_of deed)) (pieces_for to (responses_in deeds)) ∙ ap (λ xs. ps ++ xs) (sym (flat_map-append (piece_for to) (responses_of deed) (responses_in deeds)))
+
+left-all : (to : Party) (deeds : List Deed) (a b : Now) (ms : List Message) (ps : List (ℕ × List ℕ)) → DidAll a deeds b → Left to a ms ps → Left to b (ms ++ put_to to (actions_in deeds)) (ps ++ pieces_for to (responses_in deeds))
+left-all to [] a b ms ps d h = subst (λ n. Left to n (ms ++ []) (ps ++ [])) d (same-lists to a ms ps h)
+left-all to (deed ∷ deeds) a b ms ps d h =
+    left-joined to b deed deeds ms ps (left-all to deeds d.0 b (ms ++ put_to to (actions_of deed)) (ps ++ pieces_for to (responses_of deed)) d.1.1 (left-by to deed a d.0 ms ps d.1.0 h))
+
+-- from a process on that put nothing
+pub put-as-told : (to : Party) (deeds : List Deed) (a b : Now) → end_of a.outgoing to ≡ None → DidAll a deeds b → ArePutAsTold (is_gone b.gone to) (put_to to (actions_in deeds)) (pieces_for to (responses_in deeds))
+put-as-told to deeds a b none d =
+    let h = left-all to deeds a b [] [] d first in
+    record { whole = h.whole; thrown = h.thrown; are = h.are; lives = λ here. (h.lives here).0; each = h.each; front = h.front; before = h.before; behind = h.behind }
+  where
+    first : Left to a [] []
+    first = record {
+      whole = [];
+      thrown = [];
+      are = refl;
+      lives = λ here. (refl, subst (λ o. IsAt o 0 []) (sym none) (refl, refl));
+      each = tt;
+      front = inl refl;
+      before = refl;
+      behind = λ k above. refl;
+    }
