@@ -10,12 +10,11 @@ use Rattle.cq_chain_wire.specs.declared.writer.MessageWriter.{MessageWriter}
 use Rattle.cq_chain_wire.specs.Pieces.{IsNextPiece}
 use Rattle.cq_events.specs.Actions.{Action, Arrived, Asked, Crashed, Detected, Joined, Put, Took, put_to}
 use Rattle.cq_events.proofs.Parties.{same-true, same-refl, same-turned}
-use Rattle.cq_process.specs.Laws.{AreWritten}
 use Rattle.cq_process.specs.Links.{end_of, is_gone}
 use Rattle.cq_process.specs.Outgoing.{End, IsFresh}
 use Rattle.cq_process.specs.Putting.{IsHeld, WritesPiece}
 use Rattle.cq_process_laws.specs.Deeds.{Acted, Came, Deed, Ended, Lost, Missed, Read, Rested, Threw, Told, actions_in, actions_of, responses_in, responses_of}
-use Rattle.cq_process_laws.specs.Passing.{AreAllOf, AreFrontOf, ArePutAsTold, AreWhole, IsFront, of_number, piece_for, pieces_for}
+use Rattle.cq_process_laws.specs.Passing.{AreAllOf, AreFirst, AreFrontOf, ArePutAsTold, AreWhole, IsFront, of_number, piece_for, pieces_for}
 use Rattle.cq_process_laws.proofs.Moments.{Did, DidAll, Ends, IsOwn, Now, OnlyTo, Rests, Tells, Throws}
 use Rattle.cq_process_laws.proofs.Numbering.{length-last, number-here, number-there, put-both, puts-here, puts-there}
 use Rattle.cq_process_laws.proofs.Turning.{rests-same}
@@ -25,14 +24,13 @@ use Rattle.cq_process_laws.proofs.Turning.{rests-same}
 -- the pieces that were told of the message that is held
 abbrev pub WrittenSo : Option Message → MessageWriter → List (List ℕ) → MessageWriter → Type 0
 WrittenSo None start front writer = (front ≡ []) × (start ≡ writer)
-WrittenSo (Some m) start front writer = AreWritten m start front writer
+WrittenSo (Some m) start front writer = AreFirst m start front writer
 
 pub record IsAtEnd (end : End) (count : ℕ) (front : List (List ℕ)) : Type 0 where
   pub put : end.put ≡ count
   pub start : MessageWriter
   pub fresh : IsFresh start
   pub written : WrittenSo end.held start front end.writer
-  pub more : end.writer.is_done ≡ false
 
 abbrev pub IsAt : Option End → ℕ → List (List ℕ) → Type 0
 IsAt None count front = (count ≡ 0) × (front ≡ [])
@@ -40,15 +38,15 @@ IsAt (Some end) count front = IsAtEnd end count front
 
 -- an end where a message begins
 at-start : (end : End) (count : ℕ) (front : List (List ℕ)) → end.put ≡ count → IsFresh end.writer → front ≡ [] → IsAtEnd end count front
-at-start end count front put fresh none = record { put = put; start = end.writer; fresh = fresh; written = go end.held; more = fresh.begins } where
+at-start end count front put fresh none = record { put = put; start = end.writer; fresh = fresh; written = go end.held } where
   go : (o : Option Message) → WrittenSo o end.writer front end.writer
   go None = (none, refl)
-  go (Some m) = subst (λ f. AreWritten m end.writer f end.writer) (sym none) refl
+  go (Some m) = subst (λ f. AreFirst m end.writer f end.writer) (sym none) refl
 
 held-rests : (o u : Option Message) (start w v : MessageWriter) (front : List (List ℕ)) → ((x : Message) → o ≡ Some x → u ≡ Some x) → v ≡ w → WrittenSo o start front w → WrittenSo u start front v
 held-rests None None start w v front same e h = (h.0, h.1 ∙ sym e)
-held-rests None (Some m) start w v front same e h = subst (λ f. AreWritten m start f v) (sym h.0) (h.1 ∙ sym e)
-held-rests (Some x) u start w v front same e h = subst (λ o. WrittenSo o start front v) (sym (same x refl)) (subst (λ z. AreWritten x start front z) (sym e) h)
+held-rests None (Some m) start w v front same e h = subst (λ f. AreFirst m start f v) (sym h.0) (h.1 ∙ sym e)
+held-rests (Some x) u start w v front same e h = subst (λ o. WrittenSo o start front v) (sym (same x refl)) (subst (λ z. AreFirst x start front z) (sym e) h)
 
 at-rests : (o u : Option End) (count : ℕ) (front : List (List ℕ)) → Rests o u → IsAt o count front → IsAt u count front
 at-rests None None count front rests h = h
@@ -59,30 +57,28 @@ at-rests (Some before) (Some after) count front rests h = record {
   start = h.start;
   fresh = h.fresh;
   written = held-rests before.held after.held h.start before.writer after.writer front rests.1.1 rests.1.0 h.written;
-  more = ap (λ (w : MessageWriter). w.is_done) rests.1.0 ∙ h.more;
 }
 
 front-so : (o : Option Message) (end : End) (count : ℕ) (front : List (List ℕ)) (h : IsAtEnd end count front) → WrittenSo o h.start front end.writer → IsFront front
 front-so None end count front h written = inl written.0
-front-so (Some m) end count front h written = inr (m, record { start = h.start; fresh = h.fresh; end = end.writer; written = written; more = h.more })
+front-so (Some m) end count front h written = inr (m, record { start = h.start; fresh = h.fresh; end = end.writer; first = written })
 
 at-front : (end : End) (count : ℕ) (front : List (List ℕ)) → IsAtEnd end count front → IsFront front
 at-front end count front h = front-so end.held end count front h h.written
 
 -- ---- pieces
 
-written-last : (m : Message) (a b c : MessageWriter) (texts : List (List ℕ)) (text : List ℕ) → AreWritten m a texts b → IsNextPiece m b c text → AreWritten m a (texts ++ text ∷ []) c
-written-last m a b c [] text h next = (c, subst (λ w. IsNextPiece m w c text) (sym h) next, refl)
-written-last m a b c (t ∷ texts) text h next = (h.0, h.1, written-last m h.0 b c texts text h.2 next)
+first-last : (m : Message) (a b c : MessageWriter) (texts : List (List ℕ)) (text : List ℕ) → AreFirst m a texts b → IsNextPiece m b c text → c.is_done ≡ false → AreFirst m a (texts ++ text ∷ []) c
+first-last m a b c [] text h next more = (c, subst (λ w. IsNextPiece m w c text) (sym h) next, more, refl)
+first-last m a b c (t ∷ texts) text h next more = (h.0, h.1, h.2, first-last m h.0 b c texts text h.3 next more)
 
-held-written : (m : Message) (o : Option Message) (start writer : MessageWriter) (front : List (List ℕ)) → IsHeld o m → WrittenSo o start front writer → AreWritten m start front writer
-held-written m None start writer front same h = subst (λ f. AreWritten m start f writer) (sym h.0) h.1
-held-written m (Some x) start writer front same h = subst (λ y. AreWritten y start front writer) (sym (same x refl)) h
+held-first : (m : Message) (o : Option Message) (start writer : MessageWriter) (front : List (List ℕ)) → IsHeld o m → WrittenSo o start front writer → AreFirst m start front writer
+held-first m None start writer front same h = subst (λ f. AreFirst m start f writer) (sym h.0) h.1
+held-first m (Some x) start writer front same h = subst (λ y. AreFirst y start front writer) (sym (same x refl)) h
 
--- the next piece behind those that were told
-piece-behind : (m : Message) (end : End) (count : ℕ) (front : List (List ℕ)) (after : MessageWriter) (is_last : Bool) (piece : List ℕ) (h : IsAtEnd end count front) → IsHeld end.held m → WritesPiece m end.writer after is_last [] piece
-    → AreWritten m h.start (front ++ piece ∷ []) after
-piece-behind m end count front after is_last piece h same w = written-last m h.start end.writer after front piece (held-written m end.held h.start end.writer front same h.written) (subst (λ t. IsNextPiece m end.writer after t) (sym w.bytes) w.piece)
+-- the piece that is written
+next-piece : (m : Message) (before after : MessageWriter) (is_last : Bool) (piece : List ℕ) → WritesPiece m before after is_last [] piece → IsNextPiece m before after piece
+next-piece m before after is_last piece w = subst (λ t. IsNextPiece m before after t) (sym w.bytes) w.piece
 
 whole-same : (k : ℕ) (ms : List Message) (old new : List (ℕ × List ℕ)) → ((j : ℕ) → j < k + length ms → of_number j new ≡ of_number j old) → AreWhole k ms old → AreWhole k ms new
 whole-same k [] old new same h = tt
@@ -162,9 +158,9 @@ module _ (to : Party) (a b : Now) (ms : List Message) (ps : List (ℕ × List �
         start = was.start;
         fresh = was.fresh;
         written = subst (λ o. WrittenSo o was.start (of_number (length h.whole + 1) (ps ++ (number, piece) ∷ [])) t.becomes.writer) (sym t.writes.held)
-            (subst (λ f. AreWritten t.writes.message was.start f t.becomes.writer) (sym (number-here (length h.whole + 1) number ps piece (sym number_is)))
-            (piece-behind t.writes.message t.was (length h.whole) (of_number (length h.whole + 1) ps) t.becomes.writer false piece was t.writes.same t.writes.written));
-        more = t.writes.written.last;
+            (subst (λ f. AreFirst t.writes.message was.start f t.becomes.writer) (sym (number-here (length h.whole + 1) number ps piece (sym number_is)))
+            (first-last t.writes.message was.start t.was.writer t.becomes.writer (of_number (length h.whole + 1) ps) piece (held-first t.writes.message t.was.held was.start t.was.writer (of_number (length h.whole + 1) ps) t.writes.same was.written)
+            (next-piece t.writes.message t.was.writer t.becomes.writer false piece t.writes.written) t.writes.written.last));
       }
 
     -- the last piece is told, and the message is put
@@ -205,11 +201,15 @@ module _ (to : Party) (a b : Now) (ms : List Message) (ps : List (ℕ × List �
       ended = record {
         start = was.start;
         fresh = was.fresh;
+        front = of_number (length h.whole + 1) ps;
+        mid = t.was.writer;
+        first = subst (λ m. AreFirst m was.start (of_number (length h.whole + 1) ps) t.was.writer) t.message_is
+            (held-first t.writes.message t.was.held was.start t.was.writer (of_number (length h.whole + 1) ps) t.writes.same was.written);
+        last = piece;
         end = t.writes.writer;
-        written = subst (λ f. AreWritten message was.start f t.writes.writer) (sym (number-here (length h.whole + 1) number ps piece (sym number_is)))
-            (subst (λ m. AreWritten m was.start (of_number (length h.whole + 1) ps ++ piece ∷ []) t.writes.writer) t.message_is
-            (piece-behind t.writes.message t.was (length h.whole) (of_number (length h.whole + 1) ps) t.writes.writer true piece was t.writes.same t.writes.written));
-        last = t.writes.written.last;
+        next = subst (λ m. IsNextPiece m t.was.writer t.writes.writer piece) t.message_is (next-piece t.writes.message t.was.writer t.writes.writer true piece t.writes.written);
+        done = t.writes.written.last;
+        are = number-here (length h.whole + 1) number ps piece (sym number_is);
       }
 
   -- messages are thrown away

@@ -6,3 +6,4 @@ pub mod Numbering
 pub mod Leaving
 pub mod Coming
 pub mod Running
+pub mod Joining

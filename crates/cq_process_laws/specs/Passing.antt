@@ -1,6 +1,7 @@
 -- Messages on links, and the pieces that they go by.
 use Rattle.std.specs.Prelude.{◌≡◌, ℕ, ◌+◌, ◌<◌, ◌==◌, List, [], ◌∷◌, ◌++◌, length, map, flat_map, Bool, true, false, if◌then◌else◌, ◌⊎◌, ⊤, Ok}
 use Rattle.cq_base.specs.declared.party.Party.{Party}
+use Rattle.cq_base.specs.Relations.{IsPrefix}
 use Rattle.cq_chain.specs.declared.message.Message.{Message}
 use Rattle.cq_chain.specs.Parties.{same}
 use Rattle.cq_chain_wire.specs.declared.reader.Progress.TheVariants.{Whole}
@@ -8,7 +9,7 @@ use Rattle.cq_chain_wire.specs.declared.writer.MessageWriter.{MessageWriter}
 use Rattle.cq_chain_wire.specs.Feeding.{all_fed}
 use Rattle.cq_frames.specs.declared.response.Response.{Response}
 use Rattle.cq_frames.specs.declared.response.Response.TheVariants as responses
-use Rattle.cq_process.specs.Laws.{AreWritten}
+use Rattle.cq_chain_wire.specs.Pieces.{IsNextPiece}
 use Rattle.cq_process.specs.Outgoing.{IsFresh}
 use Rattle.cq_process.specs.Taking.{nothing}
 use Rattle.cq_process_laws.specs.Deeds.{Acted, Came, Deed, Ended, Lost, Missed, Read, Rested, Threw, Told}
@@ -29,21 +30,31 @@ piece_for to other = []
 abbrev pub pieces_for : Party → List Response → List (ℕ × List ℕ)
 pieces_for to told = flat_map (piece_for to) told
 
+-- These texts are pieces of the message that are written one after another, from one place of a writer to another. More are left of it
+-- behind each of them.
+abbrev pub AreFirst : Message → MessageWriter → List (List ℕ) → MessageWriter → Type 0
+AreFirst m before [] after = before ≡ after
+AreFirst m before (text ∷ texts) after = (next : MessageWriter) × IsNextPiece m before next text × (next.is_done ≡ false) × AreFirst m next texts after
+
 -- The pieces are those of the message, from its first to its last one.
 pub record AreAllOf (m : Message) (pieces : List (List ℕ)) : Type 0 where
   pub start : MessageWriter
   pub fresh : IsFresh start
+  pub front : List (List ℕ)
+  pub mid : MessageWriter
+  pub first : AreFirst m start front mid
+  pub last : List ℕ
   pub end : MessageWriter
-  pub written : AreWritten m start pieces end
-  pub last : end.is_done ≡ true
+  pub next : IsNextPiece m mid end last
+  pub done : end.is_done ≡ true
+  pub are : pieces ≡ front ++ last ∷ []
 
 -- The pieces are the first ones of the message, and more are left of it.
 pub record AreFrontOf (m : Message) (pieces : List (List ℕ)) : Type 0 where
   pub start : MessageWriter
   pub fresh : IsFresh start
   pub end : MessageWriter
-  pub written : AreWritten m start pieces end
-  pub more : end.is_done ≡ false
+  pub first : AreFirst m start pieces end
 
 -- no piece, or the first ones of some message
 abbrev pub IsFront : List (List ℕ) → Type 0
@@ -109,3 +120,11 @@ pub record WasRead (m : Message) (tries : List (List ℕ × Bool)) : Type 0 wher
 abbrev pub WereRead : ℕ → List Message → List (ℕ × (List ℕ × Bool)) → Type 0
 WereRead k [] tries = ⊤
 WereRead k (m ∷ ms) tries = WasRead m (of_number k tries) × WereRead (k + 1) ms tries
+
+-- ---- from one process to another
+
+-- The pieces that came with a number are fed as they were told: those that came one behind another, the first of them at first or behind one
+-- that was refused, are the first ones that were told with that number.
+abbrev pub AreFedAsTold : List (ℕ × List ℕ) → List (ℕ × (List ℕ × Bool)) → Type 0
+AreFedAsTold told tries = (k : ℕ) (before : List (List ℕ × Bool)) (pieces : List (List ℕ)) (last : List ℕ) (refused : Bool) (later : List (List ℕ × Bool))
+    → of_number k tries ≡ before ++ (taken pieces ++ (last, refused) ∷ later) → last_refused true before ≡ true → IsPrefix (pieces ++ last ∷ []) (of_number k told)
