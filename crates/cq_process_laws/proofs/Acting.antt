@@ -1,20 +1,18 @@
 -- Deeds are actions of the core.
-use Rattle.std.proofs.Common.{◌≡◌, ℕ, ◌∙◌, ap, sym, refl, subst, cond, List, [], ◌∷◌, ◌++◌, append_assoc, append-nil, map, Bool, true, false, Option, Some, None}
-use Rattle.std.proofs.lemmas.List.Concat.{flat_map-append}
+use Rattle.std.proofs.Common.{◌≡◌, ◌∙◌, ap, sym, refl, subst, cond, List, [], ◌∷◌, ◌++◌, Bool, true, false, Option, Some, None}
 use Rattle.cq_base.specs.declared.party.Party.{Party}
 use Rattle.cq_chain.specs.declared.message.Message as rust
 use Rattle.cq_chain.specs.declared.server.Server as rust_server
-use Rattle.cq_chain.specs.Messages.{Message}
 use Rattle.cq_chain.specs.Parties.{same}
 use Rattle.cq_chain.specs.Stands as chain
-use Rattle.cq_events.specs.Actions.{Action, Arrived, Asked, Put, Took, Crashed, Detected, Joined, CoreState, StandsAs, Keeps, Does, Run, behind}
+use Rattle.cq_events.specs.Actions.{Action, Arrived, Asked, Put, Took, Crashed, Detected, Joined, CoreState, StandsAs, Keeps, Does, behind}
 use Rattle.cq_events.specs.Acts.{Admits, Acts, ServerActs}
 use Rattle.cq_events.proofs.Parties.{same-true, same-turned}
-use Rattle.cq_process.specs.Links.{ChangesOnly, end_of, held_at, held_by}
+use Rattle.cq_process.specs.Links.{ChangesOnly, held_at, held_by}
 use Rattle.cq_process.specs.Outgoing.{End}
 use Rattle.cq_process.specs.Putting.{with_back}
 use Rattle.cq_process_laws.specs.Deeds.{Acted, Came, Deed, Ended, Lost, Missed, Read, Rested, Threw, Told, actions_in, actions_of}
-use Rattle.cq_process_laws.proofs.Moments.{Did, DidAll, Now, OnlyTo, core_now}
+use Rattle.cq_process_laws.proofs.Moments.{Did, DidAll, Now, core_now}
 
 -- ---- actions one after another
 

@@ -1,11 +1,10 @@
 -- What is done of a frame, as deeds.
-use Rattle.std.proofs.Common.{◌≡◌, ℕ, ◌+◌, ◌==◌, ◌∙◌, ap, sym, refl, subst, if◌then◌else◌, List, [], ◌∷◌, ◌++◌, append-nil, append_assoc, Bool, true, false, Option, Some, None, inl, inr, Result, Ok, Err}
+use Rattle.std.proofs.Common.{◌≡◌, ℕ, ◌+◌, ◌==◌, ◌∙◌, ap, sym, refl, subst, if◌then◌else◌, List, [], ◌∷◌, ◌++◌, append_assoc, true, false, Option, Some, None, inl, inr, Result, Ok, Err}
 use Rattle.std.specs.Prelude.{◌⊎◌}
 use Rattle.std.specs.List.{AllByRecursion}
 use Rattle.std.proofs.lemmas.Bool.{cases_Bool, eqb-true, eq-eqb, true≢false}
 use Rattle.cq_base.specs.declared.party.Party.{Party}
 use Rattle.cq_base.specs.declared.party.Party.TheVariants as parties
-use Rattle.cq_chain.specs.declared.message.Message as rust
 use Rattle.cq_chain.specs.declared.server.Server as rust_server
 use Rattle.cq_chain.specs.Stands as chain
 use Rattle.cq_chain_wire.specs.declared.reader.Progress.TheVariants.{More, Whole}
@@ -20,21 +19,20 @@ use Rattle.cq_process.specs.declared.incoming.TakeFault.{TakeFault}
 use Rattle.cq_process.specs.declared.incoming.TakeFault.TheVariants as take_faults
 use Rattle.cq_process.specs.declared.incoming.Taken.{Taken}
 use Rattle.cq_process.specs.declared.incoming.Taken.TheVariants as taken_as
-use Rattle.cq_process.specs.Links.{ChangesOnly, Received, TakesPiece, end_of, is_gone, received, received_from}
-use Rattle.cq_process.specs.Taking.{read_on}
-use Rattle.cq_server_process.specs.Answers.{Answers, AnswersBytes, AnswersCommand, Beside, GoesAway, GoesOn, GoesWith, Happens, IsRefusedAs, IsUnread, Leaves, Refuses, SendsMore, State, Takes, unread_as, waiting}
+use Rattle.cq_process.specs.Links.{Received, TakesPiece, end_of, is_gone, received_from}
+use Rattle.cq_server_process.specs.Answers.{Answers, Beside, GoesAway, GoesOn, GoesWith, Happens, IsUnread, Leaves, Refuses, SendsMore, State, Takes, unread_as, waiting}
 use Rattle.cq_server_process.specs.Turns.{at, frames}
 use Rattle.cq_wire.specs.declared.fault.ReadFault.{ReadFault}
 use Rattle.cq_wire.specs.declared.fault.ReadFault.TheVariants as read_faults
 use Rattle.cq_wire.specs.Reading.{whole_at}
 use Rattle.cq_wire.proofs.Fronts.{ok_is}
-use Rattle.cq_process_laws.specs.Deeds.{Acted, Came, Deed, Lost, Missed, Read, Rested, actions_in, responses_in}
+use Rattle.cq_process_laws.specs.Deeds.{Acted, Came, Deed, Lost, Missed, Read, Rested, responses_in}
 use Rattle.cq_process_laws.specs.Laws.{AnswersAreActions}
-use Rattle.cq_process_laws.specs.Runs.{AreTold, BeginsWith, ComesOf, IsCarriedOut, IsDone, IsPassedOver, IsRefusal, IsRefusedWith, TellsNoPiece}
+use Rattle.cq_process_laws.specs.Runs.{AreTold, BeginsWith, ComesOf, IsDone, IsPassedOver, IsRefusedWith, TellsNoPiece}
 use Rattle.cq_process_laws.specs.Deeds as rules
 use Rattle.cq_process_laws.proofs.Acting.{deeds-act, did-both, kept-from}
-use Rattle.cq_process_laws.proofs.Moments.{ByItself, Comes, Did, DidAll, IsLetGo, IsOwn, IsRead, Loses, Misses, Now, OnlyFrom, Rests, Stays, core_now, now, with_at}
-use Rattle.cq_process_laws.proofs.Turning.{Makes, all-both, all-turn, makes-both, makes-none, responses-both, rests-same, sent, thrown-from}
+use Rattle.cq_process_laws.proofs.Moments.{Did, DidAll, IsLetGo, IsOwn, Misses, Now, OnlyFrom, Rests, Stays, now, with_at}
+use Rattle.cq_process_laws.proofs.Turning.{Makes, all-turn, makes-both, makes-none, responses-both, rests-same, sent, thrown-from}
 
 -- What is done of a frame, by deeds from one state to the other.
 pub record Doing (p q : State) (frame : Option (List ℕ)) (text : List ℕ) : Type 0 where

@@ -1,9 +1,7 @@
 -- What deeds take from a party, and the pieces that came from it.
-use Rattle.std.proofs.Common.{◌≡◌, ℕ, ◌+◌, ◌<◌, ◌==◌, ◌∙◌, ap, sym, refl, subst, cond, List, [], ◌∷◌, ◌++◌, append_assoc, append-nil, length, map, Bool, true, false, Option, Some, None, inl, inr, Result, Ok, Err, arith}
+use Rattle.std.proofs.Common.{◌≡◌, ℕ, ◌+◌, ◌<◌, ◌==◌, ◌∙◌, ap, sym, refl, subst, cond, List, [], ◌∷◌, ◌++◌, append_assoc, append-nil, length, Bool, true, false, Option, None, inl, inr, Ok, arith}
 use Rattle.std.specs.Prelude.{◌⊎◌}
 use Rattle.std.proofs.lemmas.Bool.{true≢false}
-use Rattle.std.proofs.lemmas.List.{map-append}
-use Rattle.std.proofs.lemmas.List.Concat.{flat_map-append}
 use Rattle.cq_base.specs.declared.party.Party.{Party}
 use Rattle.cq_chain.specs.declared.message.Message.{Message}
 use Rattle.cq_chain.specs.Parties.{same}
@@ -16,7 +14,6 @@ use Rattle.cq_process.specs.Links.{Received, end_of, is_gone, received}
 use Rattle.cq_process.specs.Taking.{nothing, read_on}
 use Rattle.cq_process.proofs.Pieces.{are-read-on}
 use Rattle.cq_store_wire.specs.declared.build.State.{State}
-use Rattle.cq_wire.specs.declared.fault.WireFault.{WireFault}
 use Rattle.cq_wire.proofs.Fronts.{ok_is}
 use Rattle.cq_process_laws.specs.Deeds.{Acted, Came, Deed, Ended, Lost, Missed, Read, Rested, Threw, Told, actions_in, actions_of}
 use Rattle.cq_process_laws.specs.Passing.{WasRead, WereRead, last_refused, of_number, taken, tries_from, try_from}

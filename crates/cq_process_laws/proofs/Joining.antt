@@ -20,7 +20,7 @@ use Rattle.cq_wire.specs.declared.fault.WireFault.{WireFault}
 use Rattle.cq_wire.specs.Reading.{◌>>=◌}
 use Rattle.cq_wire.proofs.Fronts.{ok_is}
 use Rattle.cq_process_laws.specs.Laws.{LinksHandOver}
-use Rattle.cq_process_laws.specs.Passing.{AreAllOf, AreFedAsTold, AreFirst, ArePutAsTold, AreWhole, IsFront, WasRead, WereRead, of_number}
+use Rattle.cq_process_laws.specs.Passing.{AreAllOf, AreFedAsTold, AreFirst, AreWhole, IsFront, WereRead, of_number}
 
 -- ---- pieces of which more are left
 

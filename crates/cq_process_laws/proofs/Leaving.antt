@@ -1,6 +1,5 @@
 -- What deeds put to a party, and the pieces that they tell for it.
-use Rattle.std.proofs.Common.{◌≡◌, ℕ, ◌+◌, ◌<◌, ◌≤◌, ◌∙◌, ap, sym, refl, subst, cond, List, [], ◌∷◌, ◌++◌, append_assoc, append-nil, length, map, Bool, true, false, Option, Some, None, inl, inr, arith}
-use Rattle.std.specs.Prelude.{◌⊎◌}
+use Rattle.std.proofs.Common.{◌≡◌, ℕ, ◌+◌, ◌<◌, ◌∙◌, ap, sym, refl, subst, cond, List, [], ◌∷◌, ◌++◌, append_assoc, append-nil, length, map, Bool, true, false, Option, Some, None, inl, inr, arith}
 use Rattle.std.proofs.lemmas.Bool.{true≢false}
 use Rattle.std.proofs.lemmas.List.Concat.{flat_map-append}
 use Rattle.cq_base.specs.declared.party.Party.{Party}
@@ -9,13 +8,13 @@ use Rattle.cq_chain.specs.Parties.{same}
 use Rattle.cq_chain_wire.specs.declared.writer.MessageWriter.{MessageWriter}
 use Rattle.cq_chain_wire.specs.Pieces.{IsNextPiece}
 use Rattle.cq_events.specs.Actions.{Action, Arrived, Asked, Crashed, Detected, Joined, Put, Took, put_to}
-use Rattle.cq_events.proofs.Parties.{same-true, same-refl, same-turned}
+use Rattle.cq_events.proofs.Parties.{same-true, same-turned}
 use Rattle.cq_process.specs.Links.{end_of, is_gone}
 use Rattle.cq_process.specs.Outgoing.{End, IsFresh}
 use Rattle.cq_process.specs.Putting.{IsHeld, WritesPiece}
 use Rattle.cq_process_laws.specs.Deeds.{Acted, Came, Deed, Ended, Lost, Missed, Read, Rested, Threw, Told, actions_in, actions_of, responses_in, responses_of}
-use Rattle.cq_process_laws.specs.Passing.{AreAllOf, AreFirst, AreFrontOf, ArePutAsTold, AreWhole, IsFront, of_number, piece_for, pieces_for}
-use Rattle.cq_process_laws.proofs.Moments.{Did, DidAll, Ends, IsOwn, Now, OnlyTo, Rests, Tells, Throws}
+use Rattle.cq_process_laws.specs.Passing.{AreAllOf, AreFirst, ArePutAsTold, AreWhole, IsFront, of_number, piece_for, pieces_for}
+use Rattle.cq_process_laws.proofs.Moments.{Did, DidAll, Ends, IsOwn, Now, OnlyTo, Rests, Tells}
 use Rattle.cq_process_laws.proofs.Numbering.{length-last, number-here, number-there, put-both, puts-here, puts-there}
 use Rattle.cq_process_laws.proofs.Turning.{rests-same}
 

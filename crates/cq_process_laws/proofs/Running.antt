@@ -1,13 +1,11 @@
 -- What is done of frames one after another, as deeds.
-use Rattle.std.proofs.Common.{◌≡◌, ℕ, ◌∙◌, ap, sym, refl, subst, List, [], ◌∷◌, ◌++◌, append-nil, Option, Some, None, inl, inr}
+use Rattle.std.proofs.Common.{◌≡◌, ◌∙◌, ap, sym, refl, subst, List, [], ◌∷◌, ◌++◌, append-nil, None, inr}
 use Rattle.std.specs.List.{AllByRecursion}
 use Rattle.std.proofs.lemmas.List.Concat.{flat_map-append}
 use Rattle.cq_base.specs.declared.party.Party.{Party}
-use Rattle.cq_chain.specs.declared.message.Message as rust
-use Rattle.cq_chain.specs.Messages.{Message}
 use Rattle.cq_chain.specs.Servers as states
 use Rattle.cq_chain.specs.Stands as chain
-use Rattle.cq_events.specs.Actions.{Action, CoreState, Keeps, Run, ServerRun, StandsAs, behind, Heads, put_to}
+use Rattle.cq_events.specs.Actions.{Action, CoreState, ServerRun, StandsAs, behind, Heads, put_to}
 use Rattle.cq_chain.specs.declared.server.Server as rust_server
 use Rattle.cq_events.specs.Acts.{ServerActs}
 use Rattle.cq_frame_loop.specs.Chains.{IsChain, Step}
@@ -19,10 +17,10 @@ use Rattle.cq_server_process.specs.Answers.{IsNewProcess, State}
 use Rattle.cq_server_process.specs.Processes.{answers}
 use Rattle.cq_process_laws.specs.Deeds.{Deed, responses_in, responses_of}
 use Rattle.cq_process_laws.specs.Laws.{RunsAreActions}
-use Rattle.cq_process_laws.specs.Runs.{AreDone, AreTold, Done, IsRun, TellsNoPiece, all_actions, core_of, deeds_in, state_of, told_in}
+use Rattle.cq_process_laws.specs.Runs.{AreDone, AreTold, Done, TellsNoPiece, all_actions, core_of, deeds_in, state_of, told_in}
 use Rattle.cq_process_laws.specs.Passing.{ArePutAsTold, piece_for, pieces_for}
 use Rattle.cq_process_laws.proofs.Acting.{deeds-act, did-both}
-use Rattle.cq_process_laws.proofs.Answering.{Doing, doing, done-of}
+use Rattle.cq_process_laws.proofs.Answering.{doing, done-of}
 use Rattle.cq_process_laws.proofs.Coming.{were-read}
 use Rattle.cq_process_laws.proofs.Leaving.{put-as-told}
 use Rattle.cq_process_laws.proofs.Moments.{DidAll, now}

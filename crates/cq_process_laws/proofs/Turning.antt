@@ -1,19 +1,16 @@
 -- What turns do and tell, as deeds.
-use Rattle.std.proofs.Common.{◌≡◌, ℕ, ◌∙◌, ap, sym, refl, subst, cond, List, [], ◌∷◌, ◌++◌, append-nil, append_assoc, Bool, true, false, Option, Some, None, is_some, inl, inr, Result, Ok, Err}
-use Rattle.std.specs.Prelude.{◌⊎◌}
+use Rattle.std.proofs.Common.{◌≡◌, ℕ, ◌∙◌, ap, sym, refl, subst, List, [], ◌∷◌, ◌++◌, Bool, true, false, Option, Some, None, inl, inr, Result, Ok, Err}
 use Rattle.std.specs.List.{AllByRecursion}
-use Rattle.std.proofs.lemmas.Bool.{cases_Bool, true≢false}
+use Rattle.std.proofs.lemmas.Bool.{cases_Bool}
 use Rattle.std.proofs.lemmas.List.Concat.{flat_map-append}
 use Rattle.cq_base.specs.declared.party.Party.{Party}
 use Rattle.cq_base.specs.declared.party.Party.TheVariants as parties
-use Rattle.cq_chain.specs.declared.message.Message as rust
 use Rattle.cq_chain.specs.Parties.{same}
 use Rattle.cq_chain.specs.Stands as chain
-use Rattle.cq_events.specs.Actions.{CoreState, Keeps, StandsAs}
+use Rattle.cq_events.specs.Actions.{Keeps, StandsAs}
 use Rattle.cq_events.proofs.Parties.{same-true}
 use Rattle.cq_frames.specs.declared.response.Response.{Response}
 use Rattle.cq_process.specs.declared.outgoing.PutFault.{PutFault}
-use Rattle.cq_process.specs.declared.outgoing.PutFault.TheVariants as put_faults
 use Rattle.cq_process.specs.declared.outgoing.Written.{Written}
 use Rattle.cq_process.specs.declared.outgoing.Written.TheVariants as written_as
 use Rattle.cq_process.specs.Links.{ChangesOnly, IsOpened, PutsAt, ThrowsFrom, end_of, held_at, held_by, is_gone}
@@ -21,11 +18,11 @@ use Rattle.cq_process.specs.Outgoing.{End}
 use Rattle.cq_process.specs.Putting.{Idles}
 use Rattle.cq_server_process.specs.declared.turn.Stop.{Stop}
 use Rattle.cq_server_process.specs.Rounds.{AreInTurn, OneTurn, Rounds, told_in}
-use Rattle.cq_server_process.specs.Turns.{At, HasTurn, IsUnopened, Opens, Sends, SendsAll, Steps, ThrowsAt, ThrowsFor, TurnOf, Writes, put_of}
+use Rattle.cq_server_process.specs.Turns.{At, HasTurn, IsUnopened, Opens, Sends, SendsAll, Steps, ThrowsFor, TurnOf, put_of}
 use Rattle.cq_process_laws.specs.Deeds.{Deed, Ended, Rested, Threw, Told, responses_in, responses_of}
 use Rattle.cq_process_laws.specs.Deeds as rules
 use Rattle.cq_process_laws.proofs.Acting.{by-back, did-both, kept-from}
-use Rattle.cq_process_laws.proofs.Moments.{Did, DidAll, Now, Rests, Stays, core_now, with_at}
+use Rattle.cq_process_laws.proofs.Moments.{DidAll, Now, Rests, Stays, core_now, with_at}
 
 -- Deeds that only put and tell lead from one moment to another, and these are the responses that tell of them.
 pub record Makes (a b : Now) (told : List Response) : Type 0 where

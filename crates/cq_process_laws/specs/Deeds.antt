@@ -1,9 +1,8 @@
 -- What a process does, one thing after another: with its core, and with messages whose pieces come and go.
-use Rattle.std.specs.Prelude.{ℕ, List, [], ◌∷◌, map, flat_map, Bool, true, false, ⊤, if◌then◌else◌}
+use Rattle.std.specs.Prelude.{ℕ, List, [], ◌∷◌, map, flat_map, true, false, ⊤}
 use Rattle.std.specs.Prelude.{◌≡◌}
 use Rattle.cq_base.specs.declared.party.Party.{Party}
 use Rattle.cq_chain.specs.declared.message.Message as rust
-use Rattle.cq_chain.specs.Parties.{same}
 use Rattle.cq_events.specs.Actions.{Action, Put, Took}
 use Rattle.cq_frames.specs.declared.response.Response.{Response}
 use Rattle.cq_frames.specs.declared.response.Response.TheVariants as responses

@@ -1,5 +1,5 @@
 -- What a process did of a frame, and of frames one after another.
-use Rattle.std.specs.Prelude.{◌≡◌, ℕ, List, [], ◌∷◌, ◌++◌, flat_map, Option, None, Some, Bool, true, false, ⊤, ◌⊎◌, Ok, if◌then◌else◌}
+use Rattle.std.specs.Prelude.{◌≡◌, ℕ, List, [], ◌∷◌, ◌++◌, flat_map, Option, None, Some, ⊤, ◌⊎◌, Ok}
 use Rattle.std.specs.List.{AllByRecursion}
 use Rattle.cq_base.specs.declared.party.Party.{Party}
 use Rattle.cq_base.specs.declared.party.Party.TheVariants as parties
