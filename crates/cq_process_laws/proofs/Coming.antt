@@ -39,7 +39,7 @@ abbrev pub IsReading : Progress → List Tried → Type 0
 IsReading (More so_far) tries = IsGoing so_far tries
 IsReading (Whole m) tries = WasRead m tries
 
-taken-last : (pieces : List (List ℕ)) (piece : List ℕ) → taken (pieces ++ piece ∷ []) ≡ taken pieces ++ (piece, false) ∷ []
+pub taken-last : (pieces : List (List ℕ)) (piece : List ℕ) → taken (pieces ++ piece ∷ []) ≡ taken pieces ++ (piece, false) ∷ []
 taken-last [] piece = refl
 taken-last (x ∷ pieces) piece = ap (λ xs. (x, false) ∷ xs) (taken-last pieces piece)
 

@@ -5,5 +5,6 @@ pub mod Answering
 pub mod Numbering
 pub mod Leaving
 pub mod Coming
+pub mod Bringing
 pub mod Running
 pub mod Joining

@@ -5,7 +5,7 @@ use Rattle.std.proofs.lemmas.List.Concat.{flat_map-append}
 use Rattle.cq_base.specs.declared.party.Party.{Party}
 use Rattle.cq_chain.specs.Servers as states
 use Rattle.cq_chain.specs.Stands as chain
-use Rattle.cq_events.specs.Actions.{Action, CoreState, ServerRun, StandsAs, behind, Heads, put_to}
+use Rattle.cq_events.specs.Actions.{Action, CoreState, ServerRun, StandsAs, behind, Heads, put_to, taken_from}
 use Rattle.cq_chain.specs.declared.server.Server as rust_server
 use Rattle.cq_events.specs.Acts.{ServerActs}
 use Rattle.cq_frame_loop.specs.Chains.{IsChain, Step}
@@ -21,6 +21,7 @@ use Rattle.cq_process_laws.specs.Runs.{AreDone, AreTold, Done, TellsNoPiece, all
 use Rattle.cq_process_laws.specs.Passing.{ArePutAsTold, piece_for, pieces_for}
 use Rattle.cq_process_laws.proofs.Acting.{deeds-act, did-both}
 use Rattle.cq_process_laws.proofs.Answering.{doing, done-of}
+use Rattle.cq_process_laws.proofs.Bringing.{all-brought}
 use Rattle.cq_process_laws.proofs.Coming.{were-read}
 use Rattle.cq_process_laws.proofs.Leaving.{put-as-told}
 use Rattle.cq_process_laws.proofs.Moments.{DidAll, now}
@@ -95,5 +96,6 @@ runs-are-actions s first last steps new chain =
       lives = inr (core_of (state_of first), core_of (state_of last), stands, plain (all_actions all.done) (core_of (state_of first)) (core_of (state_of last)) acts);
       out = λ to. subst (ArePutAsTold (is_gone last.links.gone.keys to) (put_to to (all_actions all.done))) (sym (all-pieces to (state_of first) steps all.done all.each))
           (put-as-told to (deeds_in all.done) (now (state_of first)) (now (state_of last)) (new.outgoing to) all.did);
+      brought = λ from. all-brought from (state_of first) steps all.done (taken_from from (all_actions all.done)) all.each (were-read from (deeds_in all.done) (now (state_of first)) (now (state_of last)) (new.incoming from) all.did);
       into = λ from. were-read from (deeds_in all.done) (now (state_of first)) (now (state_of last)) (new.incoming from) all.did;
     }

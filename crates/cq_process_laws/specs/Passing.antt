@@ -1,17 +1,23 @@
 -- Messages on links, and the pieces that they go by.
-use Rattle.std.specs.Prelude.{◌≡◌, ℕ, ◌+◌, ◌<◌, ◌==◌, List, [], ◌∷◌, ◌++◌, length, map, flat_map, Bool, true, false, if◌then◌else◌, ◌⊎◌, ⊤, Ok}
+use Rattle.std.specs.Prelude.{◌≡◌, ℕ, ◌+◌, ◌<◌, ◌==◌, List, [], ◌∷◌, ◌++◌, length, map, flat_map, Bool, true, false, if◌then◌else◌, ◌⊎◌, ⊤, Option, None, Some, Result, Ok, Err}
 use Rattle.cq_base.specs.declared.party.Party.{Party}
 use Rattle.cq_base.specs.Relations.{IsPrefix}
 use Rattle.cq_chain.specs.declared.message.Message.{Message}
 use Rattle.cq_chain.specs.Parties.{same}
-use Rattle.cq_chain_wire.specs.declared.reader.Progress.TheVariants.{Whole}
+use Rattle.cq_chain_wire.specs.declared.reader.Progress.TheVariants.{More, Whole}
 use Rattle.cq_chain_wire.specs.declared.writer.MessageWriter.{MessageWriter}
 use Rattle.cq_chain_wire.specs.Feeding.{all_fed}
+use Rattle.cq_frames.specs.declared.command.Command.{Command}
+use Rattle.cq_frames.specs.declared.command.Command.TheVariants as commands
 use Rattle.cq_frames.specs.declared.response.Response.{Response}
 use Rattle.cq_frames.specs.declared.response.Response.TheVariants as responses
 use Rattle.cq_chain_wire.specs.Pieces.{IsNextPiece}
+use Rattle.cq_frames.specs.Reading.{command_at}
 use Rattle.cq_process.specs.Outgoing.{IsFresh}
 use Rattle.cq_process.specs.Taking.{nothing}
+use Rattle.cq_store_wire.specs.declared.build.State.{State}
+use Rattle.cq_wire.specs.declared.fault.WireFault.{WireFault}
+use Rattle.cq_wire.specs.Reading.{whole_at}
 use Rattle.cq_process_laws.specs.Deeds.{Acted, Came, Deed, Ended, Lost, Missed, Read, Rested, Threw, Told}
 
 -- of all that has a number what has that one, in order
@@ -120,6 +126,48 @@ pub record WasRead (m : Message) (tries : List (List ℕ × Bool)) : Type 0 wher
 abbrev pub WereRead : ℕ → List Message → List (ℕ × (List ℕ × Bool)) → Type 0
 WereRead k [] tries = ⊤
 WereRead k (m ∷ ms) tries = WasRead m (of_number k tries) × WereRead (k + 1) ms tries
+
+-- ---- by the frames that bring pieces
+
+-- the response says that a command was refused, or not read
+abbrev pub is_refusal : Response → Bool
+is_refusal (responses.Refused code) = true
+is_refusal (responses.Unread code) = true
+is_refusal other = false
+
+-- so does the last one of these
+abbrev pub was_refused : Bool → List Response → Bool
+was_refused so_far [] = so_far
+was_refused so_far (one ∷ rest) = was_refused (is_refusal one) rest
+
+-- the piece from a party that a command brings, with the number of its message, and whether it was refused
+abbrev pub brought_by : Party → Bool → Result Command WireFault → List (ℕ × (List ℕ × Bool))
+brought_by from refused (Ok (commands.Take other number piece)) = if same from other then (number, (piece, refused)) ∷ [] else []
+brought_by from refused (Ok other) = []
+brought_by from refused (Err fault) = []
+
+-- the piece that a frame brings, by what was told of it
+abbrev pub brought_in : Party → Option (List ℕ) → List Response → List (ℕ × (List ℕ × Bool))
+brought_in from None told = []
+brought_in from (Some bytes) told = brought_by from (was_refused false told) (whole_at command_at bytes)
+
+-- The message was read whole of some of these pieces, as `WasRead` says, but others may have been read before them. So it is where a command
+-- wasn't read for want of memory: that lets go nothing of what was read.
+pub record WasBrought (m : Message) (tries : List (List ℕ × Bool)) : Type 0 where
+  pub before : List (List ℕ × Bool)
+  pub so_far : Option State
+  pub pieces : List (List ℕ)
+  pub last : List ℕ
+  pub refused : Bool
+  pub later : List (List ℕ × Bool)
+  pub are : tries ≡ before ++ (taken pieces ++ (last, refused) ∷ later)
+  pub apart : last_refused true before ≡ true
+  pub whole : all_fed (pieces ++ last ∷ []) (More so_far) ≡ Ok (Whole m)
+
+-- so it is with each of the messages, which are numbered from k on
+abbrev pub WereBrought : ℕ → List Message → List (ℕ × (List ℕ × Bool)) → Type 0
+WereBrought k [] tries = ⊤
+WereBrought k (m ∷ ms) tries = WasBrought m (of_number k tries) × WereBrought (k + 1) ms tries
 
 -- ---- from one process to another
 

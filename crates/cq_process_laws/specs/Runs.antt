@@ -1,5 +1,5 @@
 -- What a process did of a frame, and of frames one after another.
-use Rattle.std.specs.Prelude.{◌≡◌, ℕ, List, [], ◌∷◌, ◌++◌, flat_map, Option, None, Some, ⊤, ◌⊎◌, Ok}
+use Rattle.std.specs.Prelude.{◌≡◌, ℕ, List, [], ◌∷◌, ◌++◌, flat_map, Bool, Option, None, Some, ⊤, ◌⊎◌, Ok}
 use Rattle.std.specs.List.{AllByRecursion}
 use Rattle.cq_base.specs.declared.party.Party.{Party}
 use Rattle.cq_base.specs.declared.party.Party.TheVariants as parties
@@ -21,7 +21,7 @@ use Rattle.cq_server_process.specs.Answers.{State, state}
 use Rattle.cq_server_process.specs.Turns.{frames}
 use Rattle.cq_wire.specs.Reading.{whole_at}
 use Rattle.cq_process_laws.specs.Deeds.{Acted, Came, Deed, Lost, Missed, Read, Rested, Sends, actions_in, responses_in}
-use Rattle.cq_process_laws.specs.Passing.{ArePutAsTold, WereRead, pieces_for, tries_from}
+use Rattle.cq_process_laws.specs.Passing.{ArePutAsTold, WereBrought, WereRead, brought_in, pieces_for, tries_from}
 
 -- the core of a process, with the messages that are being written
 abbrev pub core_of : State → CoreState rust_server.Server
@@ -129,6 +129,12 @@ all_actions done = actions_in (deeds_in done)
 abbrev pub told_in : List Done → List Response
 told_in done = flat_map (λ one. one.told) done
 
+-- the pieces from a party that the frames brought
+abbrev pub brought_from : Party → List (Step ServerProcess) → List Done → List (ℕ × (List ℕ × Bool))
+brought_from from [] done = []
+brought_from from (step ∷ steps) [] = []
+brought_from from (step ∷ steps) (one ∷ rest) = brought_in from step.frame one.told ++ brought_from from steps rest
+
 -- What a process did that was new, with a server that stood for that.
 pub record IsRun (s : states.Server) (first : State) (steps : List (Step ServerProcess)) (last : State) : Type 0 where
   pub done : List Done
@@ -141,3 +147,5 @@ pub record IsRun (s : states.Server) (first : State) (steps : List (Step ServerP
   pub out : (to : Party) → ArePutAsTold (is_gone last.links.gone.keys to) (put_to to (all_actions done)) (pieces_for to (told_in done))
   -- what it took from a party was read of pieces that came
   pub into : (from : Party) → WereRead 1 (taken_from from (all_actions done)) (tries_from from (deeds_in done))
+  -- and these were brought by its frames
+  pub brought : (from : Party) → WereBrought 1 (taken_from from (all_actions done)) (brought_from from steps done)
