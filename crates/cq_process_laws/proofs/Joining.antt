@@ -1,5 +1,5 @@
 -- Pieces that go from one process to another.
-use Rattle.std.proofs.Common.{◌≡◌, ℕ, ◌+◌, ◌∙◌, ap, sym, refl, subst, List, [], ◌∷◌, ◌++◌, append_assoc, append-nil, drop, length, Bool, true, false, Option, Some, None, inl, inr, Result, Ok, Err, arith}
+use Rattle.std.proofs.Common.{◌≡◌, ℕ, ◌+◌, ◌∙◌, ap, sym, refl, subst, List, [], ◌∷◌, ◌++◌, append_assoc, append-nil, drop, length, Bool, true, false, Option, Some, inl, inr, Result, Ok, Err, arith}
 use Rattle.std.specs.Prelude.{unwrap_or, ⊤, ◌⊎◌}
 use Rattle.std.proofs.lemmas.Bool.{true≢false}
 use Rattle.cq_base.specs.Relations.{Among, IsPrefix}

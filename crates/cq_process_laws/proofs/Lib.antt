@@ -8,3 +8,4 @@ pub mod Coming
 pub mod Bringing
 pub mod Running
 pub mod Joining
+mod Examples
