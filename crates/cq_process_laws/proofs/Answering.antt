@@ -26,13 +26,12 @@ use Rattle.cq_wire.specs.declared.fault.ReadFault.{ReadFault}
 use Rattle.cq_wire.specs.declared.fault.ReadFault.TheVariants as read_faults
 use Rattle.cq_wire.specs.Reading.{whole_at}
 use Rattle.cq_wire.proofs.Fronts.{ok_is}
-use Rattle.cq_process_laws.specs.Deeds.{Acted, Came, Deed, Lost, Missed, Read, Rested, responses_in}
+use Rattle.cq_process_laws.specs.Deeds.{Acted, AllTo, IsInTurns, Came, Deed, Lost, Missed, Read, Rested, responses_in}
 use Rattle.cq_process_laws.specs.Laws.{AnswersAreActions}
-use Rattle.cq_process_laws.specs.Runs.{AreTold, BeginsWith, ComesOf, IsDone, IsPassedOver, IsRefusedWith, TellsNoPiece}
-use Rattle.cq_process_laws.specs.Deeds as rules
+use Rattle.cq_process_laws.specs.Runs.{AreTold, PutsForNamed, BeginsWith, ComesOf, IsDone, IsPassedOver, IsRefusedWith, TellsNoPiece}
 use Rattle.cq_process_laws.proofs.Acting.{deeds-act, did-both, kept-from}
 use Rattle.cq_process_laws.proofs.Moments.{Did, DidAll, IsLetGo, IsOwn, Misses, Now, OnlyFrom, Rests, Stays, now, with_at}
-use Rattle.cq_process_laws.proofs.Turning.{Makes, all-turn, makes-both, makes-none, responses-both, rests-same, sent, thrown-from}
+use Rattle.cq_process_laws.proofs.Turning.{AllMake, Makes, all-turn, makes-none, responses-both, rests-same, sent, thrown-from}
 
 -- What is done of a frame, by deeds from one state to the other.
 pub record Doing (p q : State) (frame : Option (List ℕ)) (text : List ℕ) : Type 0 where
@@ -172,16 +171,22 @@ pub record Begun (command : Command) (p q : State) (told : List Response) : Type
   pub mid : Now
   pub did : DidAll (now p) first mid
   pub quiet : responses_in first ≡ []
-  pub makes : Makes mid (now q) told
+  pub own : List Deed
+  pub is_own : PutsForNamed command q.links.gone.keys own
+  pub did_own : DidAll mid own (now q)
+  pub is : told ≡ responses_in own
 
-beside-begun : (command : Command) (action : Action) (p q : State) (told : List Response) → told ≡ [] → BeginsWith command (Acted action ∷ []) → IsOwn action → Beside action p q → Begun command p q told
-beside-begun command action p q told none begins own h = record {
+beside-begun : (command : Command) (action : Action) (p q : State) (told : List Response) → told ≡ [] → BeginsWith command (Acted action ∷ []) → PutsForNamed command q.links.gone.keys [] → IsOwn action → Beside action p q → Begun command p q told
+beside-begun command action p q told none begins no_own own h = record {
   first = Acted action ∷ [];
   begins = begins;
   mid = now q;
   did = (now q, (record { own = own; does = h.does; outgoing = ap (λ l. l.outgoing) h.links; incoming = ap (λ l. l.incoming) h.links; gone = ap (λ l. l.gone.keys) h.links }, refl));
   quiet = refl;
-  makes = makes-none (now q) (now q) told refl none;
+  own = [];
+  is_own = no_own;
+  did_own = refl;
+  is = none;
 }
 
 takes-begun : (from : Party) (number : ℕ) (piece : List ℕ) (p q : State) (told : List Response) → told ≡ [] → Takes from number piece p q → Begun (commands.Take from number piece) p q told
@@ -193,7 +198,10 @@ takes-begun from number piece p q told none h =
       mid = now q;
       did = first.1.1.0;
       quiet = first.1.1.1;
-      makes = makes-none (now q) (now q) told refl none;
+      own = [];
+      is_own = refl;
+      did_own = refl;
+      is = none;
     }
 
 away-begun : (server : ℕ) (p q : State) (told : List Response) → told ≡ [] → GoesAway server p q → Begun (commands.Gone server) p q told
@@ -215,14 +223,19 @@ away-begun server p q told none h = record {
     ),
   );
   quiet = refl;
-  makes = subst (λ xs. Makes (with_at (now q) (at p.links p.core)) (now q) xs) (sym none)
-      (thrown-from (now q) (at p.links p.core) (at q.links q.core) party h.result (end_of p.links.outgoing party) (end_of q.links.outgoing party) gone refl refl h.throws h.ends);
+  own = thrown.deeds;
+  is_own = thrown.sends;
+  did_own = thrown.did;
+  is = none ∙ thrown.is;
 } where
   party : Party
   party = parties.Server server
 
   gone : is_gone q.links.gone.keys party ≡ true
   gone = h.gone party ∙ ap (λ t. if t then true else is_gone p.links.gone.keys party) (same-refl party)
+
+  thrown : Makes party (with_at (now q) (at p.links p.core)) (now q) []
+  thrown = thrown-from (now q) (at p.links p.core) (at q.links q.core) party h.result (end_of p.links.outgoing party) (end_of q.links.outgoing party) gone refl refl h.throws h.ends
 
 more-begun : (to : Party) (p q : State) (told : List Response) (before : Option Party) → SendsMore to p q told before → Begun (commands.More to) p q told
 more-begun to p q told before h = record {
@@ -231,15 +244,20 @@ more-begun to p q told before h = record {
   mid = now p;
   did = refl;
   quiet = refl;
+  own = makes.deeds;
+  is_own = subst (λ gone. AllTo to gone makes.deeds) (sym makes.gone) makes.sends;
+  did_own = makes.did;
+  is = makes.is;
+} where
+  makes : Makes to (now p) (now q) told
   makes = elim (cases_Bool (is_gone p.links.gone.keys to)) [
-    | inl away ↦ let k = h.thrown away in makes-none (now p) (now q) told (ap now (sym k.0)) k.1.0
-    | inr lives ↦ let k = h.lives lives in subst (λ n. Makes (now p) n told) (same-now p q h.incoming h.gone) (sent (now p) (at p.links p.core) (at q.links q.core) to told k.0 lives k.1.0)
-  ];
-}
+    | inl away ↦ let k = h.thrown away in makes-none to (now p) (now q) told (ap now (sym k.0)) k.1.0
+    | inr lives ↦ let k = h.lives lives in subst (λ n. Makes to (now p) n told) (same-now p q h.incoming h.gone) (sent (now p) (at p.links p.core) (at q.links q.core) to told k.0 lives k.1.0)
+  ]
 
 happens-begun : (command : Command) (p q : State) (told : List Response) (before : Option Party) → Happens command p q told before → Begun command p q told
-happens-begun (commands.Arrive clock request) p q told before h = beside-begun (commands.Arrive clock request) (Arrived clock request) p q told h.0 refl tt h.1.1
-happens-begun (commands.Ask query) p q told before h = beside-begun (commands.Ask query) (Asked query) p q told h.0 refl tt h.1.1
+happens-begun (commands.Arrive clock request) p q told before h = beside-begun (commands.Arrive clock request) (Arrived clock request) p q told h.0 refl refl tt h.1.1
+happens-begun (commands.Ask query) p q told before h = beside-begun (commands.Ask query) (Asked query) p q told h.0 refl refl tt h.1.1
 happens-begun (commands.Take from number piece) p q told before h = takes-begun from number piece p q told h.0 h.1.1
 happens-begun (commands.Gone server) p q told before h = away-begun server p q told h.0 h.1.1
 happens-begun (commands.More to) p q told before h = more-begun to p q told before h
@@ -257,38 +275,43 @@ no-pieces (Some to) one h = (tt, (h, tt))
 carried : (command : Command) (p q : State) (bytes text : List ℕ) (told : List Response) → text ≡ frames told → whole_at command_at bytes ≡ Ok command → GoesOn command p q told → Doing p q (Some bytes) text
 carried command p q bytes text told is read h = record {
   told = told;
-  deeds = begun.first ++ makes.deeds;
+  deeds = begun.first ++ (begun.own ++ turns.deeds);
   as_frames = is;
   are_told = record {
     end = waiting h.first ++ responses.Done h.standing ∷ [];
-    is = h.is ∙ ap (λ xs. xs ++ (waiting h.first ++ responses.Done h.standing ∷ [])) (goes.is ∙ makes.is ∙ ap (λ xs. xs ++ responses_in makes.deeds) (sym begun.quiet) ∙ sym (responses-both begun.first makes.deeds));
+    is = h.is ∙ ap (λ xs. xs ++ (waiting h.first ++ responses.Done h.standing ∷ [])) (goes.is ∙ all-told ∙ ap (λ xs. xs ++ responses_in (begun.own ++ turns.deeds)) (sym begun.quiet) ∙ sym (responses-both begun.first (begun.own ++ turns.deeds)));
     none = no-pieces h.first (responses.Done h.standing) tt;
   };
   comes = inl (record {
     command = command;
     read = read;
     first = begun.first;
-    later = makes.deeds;
+    own = begun.own;
+    turns = turns.deeds;
     is = refl;
     begins = begun.begins;
     before = h.put ++ waiting h.first;
     standing = h.standing;
     ends = h.is ∙ sym (append_assoc h.put (waiting h.first) (responses.Done h.standing ∷ []));
-    sends = subst (λ gone. AllByRecursion (rules.Sends gone) makes.deeds) (sym makes.gone) makes.sends;
+    is_own = subst (λ gone. PutsForNamed command gone begun.own) same-gone begun.is_own;
+    in_turns = subst (λ gone. IsInTurns gone turns.deeds) same-gone turns.turns;
   });
-  did = did-both begun.first makes.deeds (now p) begun.mid (now q) begun.did makes.did;
+  did = did-both begun.first (begun.own ++ turns.deeds) (now p) begun.mid (now q) begun.did (did-both begun.own turns.deeds begun.mid (now goes.mid) (now q) begun.did_own turns.did);
 } where
   goes : GoesWith command p q h.put h.first
   goes = h.goes
 
+  same-gone : goes.mid.links.gone.keys ≡ q.links.gone.keys
+  same-gone = ap (λ g. g.keys) (sym goes.gone)
+
   begun : Begun command p goes.mid goes.of_it
   begun = happens-begun command p goes.mid goes.of_it goes.before goes.happens
 
-  turns : Makes (now goes.mid) (now q) goes.in_turns
-  turns = subst (λ n. Makes (now goes.mid) n goes.in_turns) (same-now goes.mid q goes.incoming goes.gone) (all-turn (now goes.mid) goes.before h.first (at goes.mid.links goes.mid.core) (at q.links q.core) goes.in_turns goes.rounds)
+  turns : AllMake (now goes.mid) (now q) goes.in_turns
+  turns = subst (λ n. AllMake (now goes.mid) n goes.in_turns) (same-now goes.mid q goes.incoming goes.gone) (all-turn (now goes.mid) goes.before h.first (at goes.mid.links goes.mid.core) (at q.links q.core) goes.in_turns goes.rounds)
 
-  makes : Makes begun.mid (now q) (goes.of_it ++ goes.in_turns)
-  makes = makes-both begun.mid (now goes.mid) (now q) goes.of_it goes.in_turns begun.makes turns
+  all-told : goes.of_it ++ goes.in_turns ≡ responses_in (begun.own ++ turns.deeds)
+  all-told = ap (λ xs. xs ++ goes.in_turns) begun.is ∙ ap (λ xs. responses_in begun.own ++ xs) turns.is ∙ sym (responses-both begun.own turns.deeds)
 
 -- ---- one that is refused
 

@@ -1,9 +1,9 @@
 -- The pieces that frames bring, and those of them that count.
 use Rattle.std.proofs.Common.{◌≡◌, ℕ, ◌+◌, ◌==◌, ◌∙◌, ap, sym, refl, subst, cond, List, [], ◌∷◌, ◌++◌, append_assoc, append-nil, Bool, true, false, Option, Some, None, inl, inr, Result, Ok, Err}
 use Rattle.std.specs.Prelude.{◌⊎◌, ⊤}
-use Rattle.std.specs.List.{AllByRecursion}
 use Rattle.std.proofs.lemmas.List.Concat.{flat_map-append}
 use Rattle.cq_base.specs.declared.party.Party.{Party}
+use Rattle.cq_base.specs.declared.party.Party.TheVariants as parties
 use Rattle.cq_chain.specs.declared.message.Message.{Message}
 use Rattle.cq_chain.specs.Parties.{same}
 use Rattle.cq_chain_wire.specs.declared.reader.Progress.{Progress}
@@ -21,9 +21,9 @@ use Rattle.cq_server_process.specs.Answers.{State}
 use Rattle.cq_store_wire.specs.declared.build.State as builds
 use Rattle.cq_wire.specs.declared.fault.WireFault.{WireFault}
 use Rattle.cq_wire.specs.Reading.{◌>>=◌, whole_at}
-use Rattle.cq_process_laws.specs.Deeds.{Acted, Came, Deed, Ended, Lost, Missed, Read, Rested, Sends, Threw, Told}
+use Rattle.cq_process_laws.specs.Deeds.{Acted, AllTo, AreTurns, Came, Deed, Ended, IsInTurns, Lost, Missed, Read, Rested, Threw, Told, in_turns}
 use Rattle.cq_process_laws.specs.Passing.{WasBrought, WasRead, WereBrought, WereRead, brought_by, brought_in, last_refused, of_number, taken, tries_from, try_from, was_refused}
-use Rattle.cq_process_laws.specs.Runs.{AreDone, BeginsWith, ComesOf, Done, IsCarriedOut, IsPassedOver, IsRefusedWith, brought_from, deeds_in, state_of}
+use Rattle.cq_process_laws.specs.Runs.{AreDone, BeginsWith, ComesOf, Done, IsCarriedOut, PutsForNamed, IsPassedOver, IsRefusedWith, brought_from, deeds_in, state_of}
 use Rattle.cq_process_laws.proofs.Coming.{Tried, taken-last}
 use Rattle.cq_process_laws.proofs.Numbering.{number-both, refused-last}
 
@@ -159,17 +159,35 @@ were-brought k (m ∷ ms) all tries leaves h = (was-brought m (of_number k all) 
 
 -- ---- of a frame
 
-sent-none : (from : Party) (gone : List Party) (deeds : List Deed) → AllByRecursion (Sends gone) deeds → tries_from from deeds ≡ []
-sent-none from gone [] h = refl
-sent-none from gone (Rested ∷ deeds) h = sent-none from gone deeds h.1
-sent-none from gone (Acted action ∷ deeds) h = absurd h.0
-sent-none from gone (Came other number piece ∷ deeds) h = absurd h.0
-sent-none from gone (Read other number piece message ∷ deeds) h = absurd h.0
-sent-none from gone (Missed other number piece ∷ deeds) h = absurd h.0
-sent-none from gone (Lost party ∷ deeds) h = absurd h.0
-sent-none from gone (Told to number piece ∷ deeds) h = sent-none from gone deeds h.1
-sent-none from gone (Ended to number piece message ∷ deeds) h = sent-none from gone deeds h.1
-sent-none from gone (Threw to messages ∷ deeds) h = sent-none from gone deeds h.1
+-- what is put and told brings nothing
+sent-none : (from to : Party) (gone : List Party) (deeds : List Deed) → AllTo to gone deeds → tries_from from deeds ≡ []
+sent-none from to gone [] h = refl
+sent-none from to gone (Rested ∷ deeds) h = sent-none from to gone deeds h.1
+sent-none from to gone (Acted action ∷ deeds) h = absurd h.0
+sent-none from to gone (Came other number piece ∷ deeds) h = absurd h.0
+sent-none from to gone (Read other number piece message ∷ deeds) h = absurd h.0
+sent-none from to gone (Missed other number piece ∷ deeds) h = absurd h.0
+sent-none from to gone (Lost party ∷ deeds) h = absurd h.0
+sent-none from to gone (Told other number piece ∷ deeds) h = sent-none from to gone deeds h.1
+sent-none from to gone (Ended other number piece message ∷ deeds) h = sent-none from to gone deeds h.1
+sent-none from to gone (Threw other messages ∷ deeds) h = sent-none from to gone deeds h.1
+
+-- where two lists bring nothing, both bring nothing
+none-both : (from : Party) (xs ys : List Deed) → tries_from from xs ≡ [] → tries_from from ys ≡ [] → tries_from from (xs ++ ys) ≡ []
+none-both from xs ys h k = flat_map-append (try_from from) xs ys ∙ ap (λ zs. zs ++ tries_from from ys) h ∙ k
+
+turns-none : (from : Party) (gone : List Party) (turns : List (ℕ × List Deed)) → AreTurns gone turns → tries_from from (in_turns turns) ≡ []
+turns-none from gone [] h = refl
+turns-none from gone (turn ∷ turns) h = none-both from turn.1 (in_turns turns) (sent-none from (parties.Server turn.0) gone turn.1 h.0) (turns-none from gone turns h.1)
+
+all-none : (from : Party) (gone : List Party) (deeds : List Deed) → IsInTurns gone deeds → tries_from from deeds ≡ []
+all-none from gone deeds h = ap (tries_from from) h.is ∙ none-both from h.clients (h.master ++ in_turns h.servers) (sent-none from parties.Clients gone h.clients h.to_clients)
+    (none-both from h.master (in_turns h.servers) (sent-none from parties.Master gone h.master h.to_master) (turns-none from gone h.servers h.to_servers))
+
+own-none : (from : Party) (command : Command) (gone : List Party) (own : List Deed) → PutsForNamed command gone own → tries_from from own ≡ []
+own-none from (commands.More to) gone own h = sent-none from to gone own h
+own-none from (commands.Gone server) gone own h = sent-none from (parties.Server server) gone own h
+own-none from command gone own h = ap (tries_from from) h
 
 begun-tries : (from : Party) (command : Command) (first : List Deed) → BeginsWith command first → brought_by from false (Ok command) ≡ tries_from from first
 begun-tries from (commands.Arrive clock request) first h = sym (ap (tries_from from) h)
@@ -227,7 +245,8 @@ passed-leaves from bytes told deeds h = subst (λ ds. LeavesAll (brought_in from
 carried-tries : (from : Party) (gone : List Party) (bytes : List ℕ) (told : List Response) (deeds : List Deed) → IsCarriedOut gone bytes told deeds → brought_in from (Some bytes) told ≡ tries_from from deeds
 carried-tries from gone bytes told deeds h =
     ap (λ refused. brought_by from refused (whole_at command_at bytes)) (ap (was_refused false) h.ends ∙ done-told false h.before h.standing) ∙ ap (brought_by from false) h.read ∙ begun-tries from h.command h.first h.begins
-    ∙ sym (append-nil (tries_from from h.first)) ∙ ap (λ zs. tries_from from h.first ++ zs) (sym (sent-none from gone h.later h.sends)) ∙ sym (flat_map-append (try_from from) h.first h.later) ∙ ap (tries_from from) (sym h.is)
+    ∙ sym (append-nil (tries_from from h.first)) ∙ ap (λ zs. tries_from from h.first ++ zs) (sym (none-both from h.own h.turns (own-none from h.command gone h.own h.is_own) (all-none from gone h.turns h.in_turns)))
+    ∙ sym (flat_map-append (try_from from) h.first (h.own ++ h.turns)) ∙ ap (tries_from from) (sym h.is)
 
 frame-leaves : (from : Party) (gone : List Party) (frame : Option (List ℕ)) (told : List Response) (deeds : List Deed) → ComesOf gone frame told deeds → LeavesAll (brought_in from frame told) (tries_from from deeds)
 frame-leaves from gone None told deeds h = leaves-equal [] (tries_from from deeds) (sym (ap (tries_from from) h.nothing))

@@ -1,7 +1,8 @@
 -- What a process does, one thing after another: with its core, and with messages whose pieces come and go.
-use Rattle.std.specs.Prelude.{ℕ, List, [], ◌∷◌, map, flat_map, true, false, ⊤}
-use Rattle.std.specs.Prelude.{◌≡◌}
+use Rattle.std.specs.Prelude.{◌≡◌, ℕ, List, [], ◌∷◌, ◌++◌, map, flat_map, true, false, ⊤}
+use Rattle.std.specs.List.{AllByRecursion}
 use Rattle.cq_base.specs.declared.party.Party.{Party}
+use Rattle.cq_base.specs.declared.party.Party.TheVariants.{Master, Clients, Server}
 use Rattle.cq_chain.specs.declared.message.Message as rust
 use Rattle.cq_events.specs.Actions.{Action, Put, Took}
 use Rattle.cq_frames.specs.declared.response.Response.{Response}
@@ -63,14 +64,35 @@ responses_in deeds = flat_map responses_of deeds
 
 -- ---- deeds that only put and tell
 
--- Of these parties, which are gone: pieces for others are told, and messages for those are thrown away.
-abbrev pub Sends : List Party → Deed → Type 0
-Sends gone Rested = ⊤
-Sends gone (Acted action) = ⊥
-Sends gone (Came from number piece) = ⊥
-Sends gone (Read from number piece message) = ⊥
-Sends gone (Missed from number piece) = ⊥
-Sends gone (Lost party) = ⊥
-Sends gone (Told to number piece) = is_gone gone to ≡ false
-Sends gone (Ended to number piece message) = is_gone gone to ≡ false
-Sends gone (Threw to messages) = is_gone gone to ≡ true
+-- It puts or tells something for that party, or does nothing. What is put for a party that is gone is thrown away.
+abbrev pub SendsTo : Party → List Party → Deed → Type 0
+SendsTo to gone Rested = ⊤
+SendsTo to gone (Acted action) = ⊥
+SendsTo to gone (Came from number piece) = ⊥
+SendsTo to gone (Read from number piece message) = ⊥
+SendsTo to gone (Missed from number piece) = ⊥
+SendsTo to gone (Lost party) = ⊥
+SendsTo to gone (Told other number piece) = (other ≡ to) × (is_gone gone to ≡ false)
+SendsTo to gone (Ended other number piece message) = (other ≡ to) × (is_gone gone to ≡ false)
+SendsTo to gone (Threw other messages) = (other ≡ to) × (is_gone gone to ≡ true)
+
+-- so do all of these
+abbrev pub AllTo : Party → List Party → List Deed → Type 0
+AllTo to gone deeds = AllByRecursion (SendsTo to gone) deeds
+
+-- what was done in turns of servers, each of which has its number
+abbrev pub in_turns : List (ℕ × List Deed) → List Deed
+in_turns turns = flat_map (λ turn. turn.1) turns
+
+abbrev pub AreTurns : List Party → List (ℕ × List Deed) → Type 0
+AreTurns gone turns = AllByRecursion (λ turn. AllTo (Server turn.0) gone turn.1) turns
+
+-- Clients have their turn first, then the master, and then servers.
+pub record IsInTurns (gone : List Party) (deeds : List Deed) : Type 0 where
+  pub clients : List Deed
+  pub master : List Deed
+  pub servers : List (ℕ × List Deed)
+  pub is : deeds ≡ clients ++ (master ++ in_turns servers)
+  pub to_clients : AllTo Clients gone clients
+  pub to_master : AllTo Master gone master
+  pub to_servers : AreTurns gone servers

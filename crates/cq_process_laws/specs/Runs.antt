@@ -20,7 +20,7 @@ use Rattle.cq_server_process.specs.declared.process.ServerProcess.{ServerProcess
 use Rattle.cq_server_process.specs.Answers.{State, state}
 use Rattle.cq_server_process.specs.Turns.{frames}
 use Rattle.cq_wire.specs.Reading.{whole_at}
-use Rattle.cq_process_laws.specs.Deeds.{Acted, Came, Deed, Lost, Missed, Read, Rested, Sends, actions_in, responses_in}
+use Rattle.cq_process_laws.specs.Deeds.{Acted, AllTo, Came, Deed, IsInTurns, Lost, Missed, Read, Rested, actions_in, responses_in}
 use Rattle.cq_process_laws.specs.Passing.{ArePutAsTold, WereBrought, WereRead, brought_in, pieces_for, tries_from}
 
 -- the core of a process, with the messages that are being written
@@ -50,18 +50,26 @@ abbrev pub IsRefusedWith : Command → List Deed → Type 0
 IsRefusedWith (commands.Take from number piece) deeds = deeds ≡ Missed from number piece ∷ []
 IsRefusedWith other deeds = deeds ≡ Rested ∷ []
 
--- A command is carried out: what it is comes first, and then puts. All that came of it was told.
+-- what is put by a command for the party that it names
+abbrev pub PutsForNamed : Command → List Party → List Deed → Type 0
+PutsForNamed (commands.More to) gone own = AllTo to gone own
+PutsForNamed (commands.Gone server) gone own = AllTo (parties.Server server) gone own
+PutsForNamed other gone own = own ≡ []
+
+-- A command is carried out: what it is comes first, and then all parties have their turns. All that came of it was told.
 pub record IsCarriedOut (gone : List Party) (bytes : List ℕ) (told : List Response) (deeds : List Deed) : Type 0 where
   pub command : Command
   pub read : whole_at command_at bytes ≡ Ok command
   pub first : List Deed
-  pub later : List Deed
-  pub is : deeds ≡ first ++ later
+  pub own : List Deed
+  pub turns : List Deed
+  pub is : deeds ≡ first ++ (own ++ turns)
   pub begins : BeginsWith command first
   pub before : List Response
   pub standing : Standing
   pub ends : told ≡ before ++ responses.Done standing ∷ []
-  pub sends : AllByRecursion (Sends gone) later
+  pub is_own : PutsForNamed command gone own
+  pub in_turns : IsInTurns gone turns
 
 -- Or it is refused.
 pub record IsRefusal (bytes : List ℕ) (told : List Response) (deeds : List Deed) : Type 0 where

@@ -1,8 +1,8 @@
 //! Laws of a process that keeps a server. A function here does nothing: its contract is a law, which is proved with it.
 ghost use Rattle.cq_process_laws.specs.Laws.{AnswersAreActions, LinksHandOver, RunsAreActions};
 
-/// What a process does of a frame are actions of its core, of which none is refused: the one that the command is, and puts.
-/// Each piece that is told is of a message that one of the puts puts, or of one that is still being written.
+/// What a process does of a frame are actions of its core, of which none is refused: the one that the command is, and then puts, party by
+/// party. Each piece that is told is of a message that is put with it, or of one of which more pieces are left.
 pub fn answers_are_actions()
     ensures { AnswersAreActions }
 {}
