@@ -75,7 +75,7 @@ did-acts (Acted action) a b h = subst (λ ends. ServerActs (core_now a) (action 
 did-acts (Came from number piece) a b h = kept-from a.core b.core a.outgoing b.outgoing h.only.outgoing h.keeps
 did-acts (Read from number piece message) a b h = subst (λ ends. ServerActs (core_now a) (Took from message ∷ []) (record { core = b.core; back = held_by ends })) (sym h.only.outgoing)
     (one-act (Took from message) (core_now a) (record { core = b.core; back = held_by a.outgoing }) (h.takes (held_by a.outgoing)))
-did-acts (Missed from number piece) a b h = kept-from a.core b.core a.outgoing b.outgoing h.only.outgoing h.keeps
+did-acts (Missed from number piece code) a b h = kept-from a.core b.core a.outgoing b.outgoing h.only.outgoing h.keeps
 did-acts (Lost party) a b h = kept-from a.core b.core a.outgoing b.outgoing h.outgoing (subst (λ c. chain.Keeps a.core c) (sym h.core) (λ s outbox i. i))
 did-acts (Told to number piece) a b h =
     by-back (λ back. Keeps StandsAs (core_now a) (record { core = b.core; back = back })) a.outgoing b.outgoing to (Some h.writes.message) h.only.others (ap held_at h.is_new ∙ h.writes.held)

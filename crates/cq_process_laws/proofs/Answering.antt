@@ -1,5 +1,5 @@
 -- What is done of a frame, as deeds.
-use Rattle.std.proofs.Common.{◌≡◌, ℕ, ◌+◌, ◌==◌, ◌∙◌, ap, sym, refl, subst, if◌then◌else◌, List, [], ◌∷◌, ◌++◌, append_assoc, true, false, Option, Some, None, inl, inr, Result, Ok, Err}
+use Rattle.std.proofs.Common.{◌≡◌, ℕ, ◌+◌, ◌==◌, ◌∙◌, ap, sym, refl, subst, if◌then◌else◌, List, [], ◌∷◌, ◌++◌, append_assoc, true, false, Option, Some, None, inl, inr, Result, Ok, Err, arith}
 use Rattle.std.specs.Prelude.{◌⊎◌}
 use Rattle.std.specs.List.{AllByRecursion}
 use Rattle.std.proofs.lemmas.Bool.{cases_Bool, eqb-true, eq-eqb, true≢false}
@@ -19,18 +19,22 @@ use Rattle.cq_process.specs.declared.incoming.TakeFault.{TakeFault}
 use Rattle.cq_process.specs.declared.incoming.TakeFault.TheVariants as take_faults
 use Rattle.cq_process.specs.declared.incoming.Taken.{Taken}
 use Rattle.cq_process.specs.declared.incoming.Taken.TheVariants as taken_as
+use Rattle.cq_process.specs.Faults.{take_code}
 use Rattle.cq_process.specs.Links.{Received, TakesPiece, end_of, is_gone, received_from}
-use Rattle.cq_server_process.specs.Answers.{Answers, Beside, GoesAway, GoesOn, GoesWith, Happens, IsUnread, Leaves, Refuses, SendsMore, State, Takes, unread_as, waiting}
+use Rattle.cq_server_process.specs.Answers.{Answers, Beside, GoesAway, GoesOn, GoesWith, Happens, IsUnread, Leaves, Refuses, SendsMore, State, Takes, waiting}
 use Rattle.cq_server_process.specs.Turns.{at, frames}
 use Rattle.cq_wire.specs.declared.fault.ReadFault.{ReadFault}
 use Rattle.cq_wire.specs.declared.fault.ReadFault.TheVariants as read_faults
-use Rattle.cq_wire.specs.Reading.{whole_at}
+use Rattle.cq_wire.specs.declared.fault.WireFault.{WireFault}
+use Rattle.cq_wire.specs.declared.fault.WireFault.TheVariants.{Truncated, BadTag, BadText, BadNumber, BytesLeft, OtherVersion}
+use Rattle.cq_wire.specs.Faults.{wire_code}
+use Rattle.cq_wire.specs.Reading.{Fails, whole_at}
 use Rattle.cq_wire.proofs.Fronts.{ok_is}
 use Rattle.cq_process_laws.specs.Deeds.{Acted, AllTo, IsInTurns, Came, Deed, Lost, Missed, Read, Rested, responses_in}
 use Rattle.cq_process_laws.specs.Laws.{AnswersAreActions}
-use Rattle.cq_process_laws.specs.Runs.{AreTold, PutsForNamed, BeginsWith, ComesOf, IsDone, IsPassedOver, IsRefusedWith, TellsNoPiece}
+use Rattle.cq_process_laws.specs.Runs.{AreTold, PutsForNamed, BeginsWith, ComesOf, IsDone, IsRefusedWith, TellsNoPiece}
 use Rattle.cq_process_laws.proofs.Acting.{deeds-act, did-both, kept-from}
-use Rattle.cq_process_laws.proofs.Moments.{Did, DidAll, IsLetGo, IsOwn, Misses, Now, OnlyFrom, Rests, Stays, now, with_at}
+use Rattle.cq_process_laws.proofs.Moments.{Did, DidAll, IsLetGo, IsOutOfTurn, IsOwn, Misses, Now, OnlyFrom, Rests, Stays, now, with_at}
 use Rattle.cq_process_laws.proofs.Turning.{AllMake, Makes, all-turn, makes-none, responses-both, rests-same, sent, thrown-from}
 
 -- What is done of a frame, by deeds from one state to the other.
@@ -124,38 +128,44 @@ module _ (p q : State) (from : Party) (number : ℕ) (piece : List ℕ) where
         ),
       )
 
-  abbrev pub Missing : Type 0
-  Missing = Misses from number piece (now p) (now q)
+-- no bytes are refused for want of memory
+not-memory : (fault : WireFault) → wire_code fault ≡ 20 → ⊥
+not-memory Truncated h = omega (arith, h)
+not-memory BadTag h = omega (arith, h)
+not-memory BadText h = omega (arith, h)
+not-memory BadNumber h = omega (arith, h)
+not-memory BytesLeft h = omega (arith, h)
+not-memory OtherVersion h = omega (arith, h)
 
-  piece-left : (fault : TakeFault) → OnlyFrom from (now p) (now q) → is_gone p.links.gone.keys from ≡ false
-      → TakesPiece (received_from p.links.incoming from) (received_from q.links.incoming from) p.core q.core from number piece (Err fault) → Missing
-  piece-left fault only lives h = record {
-    only = only;
-    keeps = h.idle (λ is. absurd cc);
-    taken = h.counted;
-    left = λ there. left fault h;
-  } where
-    before : Received
-    before = received_from p.links.incoming from
+-- what a piece that is refused leaves
+missed-left : (before after : Received) (a b : rust_server.Server) (from : Party) (number : ℕ) (piece : List ℕ) (code : ℕ) (fault : TakeFault) → code ≡ take_code fault → TakesPiece before after a b from number piece (Err fault)
+    → IsOutOfTurn number code before after ⊎ ((number ≡ before.taken + 1) × IsLetGo before.next piece code after.next)
+missed-left before after a b from number piece code take_faults.NotNext is k = inl ((λ same. k.in_turn same refl), ((λ memory. omega (arith, is, memory)), k.left))
+missed-left before after a b from number piece code (take_faults.Unread read_faults.NoMemory) is k =
+    inr (in-turn before after a b from number piece (Err (take_faults.Unread read_faults.NoMemory)) k (λ same. absurd cc), inl (k.left, λ memory. omega (arith, is, memory)))
+missed-left before after a b from number piece code (take_faults.Unread (read_faults.Bad fault)) is k =
+    inr (in-turn before after a b from number piece (Err (take_faults.Unread (read_faults.Bad fault))) k (λ same. absurd cc), inl (k.left, λ memory. not-memory fault (sym is ∙ memory)))
+missed-left before after a b from number piece code (take_faults.Refused one) is k =
+    inr (in-turn before after a b from number piece (Err (take_faults.Refused one)) k (λ same. absurd cc), inr (k.read.0, (k.read.1, ok_is after.next (Whole k.read.0) (sym k.left ∙ k.read.1))))
 
-    after : Received
-    after = received_from q.links.incoming from
+piece-left : (p q : State) (from : Party) (number : ℕ) (piece : List ℕ) (code : ℕ) (fault : TakeFault) → code ≡ take_code fault → OnlyFrom from (now p) (now q)
+    → TakesPiece (received_from p.links.incoming from) (received_from q.links.incoming from) p.core q.core from number piece (Err fault) → Misses from number piece code (now p) (now q)
+piece-left p q from number piece code fault is only h = record {
+  only = only;
+  keeps = h.idle (λ same. absurd cc);
+  taken = h.counted;
+  left = λ there. missed-left (received_from p.links.incoming from) (received_from q.links.incoming from) p.core q.core from number piece code fault is h;
+}
 
-    left : (f : TakeFault) → TakesPiece before after p.core q.core from number piece (Err f)
-        → ((number ≡ before.taken + 1 → ⊥) × (after.next ≡ before.next)) ⊎ ((number ≡ before.taken + 1) × IsLetGo before.next piece after.next)
-    left take_faults.NotNext k = inl ((λ is. k.in_turn is refl), k.left)
-    left (take_faults.Unread one) k = inr (in-turn before after p.core q.core from number piece (Err (take_faults.Unread one)) k (λ is. absurd cc), inl k.left)
-    left (take_faults.Refused one) k = inr (in-turn before after p.core q.core from number piece (Err (take_faults.Refused one)) k (λ is. absurd cc), inr (k.read.0, (k.read.1, ok_is after.next (Whole k.read.0) (sym k.left ∙ k.read.1))))
-
-pub left-missed : (p q : State) (from : Party) (number : ℕ) (piece : List ℕ) (code : ℕ) → Leaves from number piece code p q → Misses from number piece (now p) (now q)
+pub left-missed : (p q : State) (from : Party) (number : ℕ) (piece : List ℕ) (code : ℕ) → Leaves from number piece code p q → Misses from number piece code (now p) (now q)
 left-missed p q from number piece code h = elim (cases_Bool (is_gone p.links.gone.keys from)) [
   | inl away ↦ gone away (h.thrown away)
-  | inr lives ↦ piece-left p q from number piece h.fault only lives (h.lives lives)
+  | inr lives ↦ piece-left p q from number piece code h.fault h.is only (h.lives lives)
 ] where
   only : OnlyFrom from (now p) (now q)
   only = record { others = h.others; outgoing = h.outgoing; gone = ap (λ g. g.keys) h.gone }
 
-  gone : is_gone p.links.gone.keys from ≡ true → (h.fault ≡ take_faults.NotNext) × (chain.Keeps p.core q.core × (q.links.incoming ≡ p.links.incoming)) → Misses from number piece (now p) (now q)
+  gone : is_gone p.links.gone.keys from ≡ true → (h.fault ≡ take_faults.NotNext) × (chain.Keeps p.core q.core × (q.links.incoming ≡ p.links.incoming)) → Misses from number piece code (now p) (now q)
   gone away k = record {
     only = only;
     keeps = k.1.0;
@@ -315,7 +325,7 @@ carried command p q bytes text told is read h = record {
 
 -- ---- one that is refused
 
-one-refused : (deed : Deed) (p q : State) (bytes text : List ℕ) (command : Command) (code : ℕ) → text ≡ frames (responses.Refused code ∷ []) → whole_at command_at bytes ≡ Ok command → IsRefusedWith command (deed ∷ []) → responses_in (deed ∷ []) ≡ []
+one-refused : (deed : Deed) (p q : State) (bytes text : List ℕ) (command : Command) (code : ℕ) → text ≡ frames (responses.Refused code ∷ []) → whole_at command_at bytes ≡ Ok command → IsRefusedWith command code (deed ∷ []) → responses_in (deed ∷ []) ≡ []
     → Did deed (now p) (now q) → Doing p q (Some bytes) text
 one-refused deed p q bytes text command code is read refused quiet did = record {
   told = responses.Refused code ∷ [];
@@ -334,7 +344,7 @@ refused (commands.Arrive clock request) p q bytes text code is read h = one-refu
     (stays-kept (now p) (now q) h.keeps (ap (λ l. l.outgoing) h.links) (ap (λ l. l.incoming) h.links) (ap (λ l. l.gone.keys) h.links))
 refused (commands.Ask query) p q bytes text code is read h = one-refused Rested p q bytes text (commands.Ask query) code is read refl refl
     (stays-kept (now p) (now q) h.keeps (ap (λ l. l.outgoing) h.links) (ap (λ l. l.incoming) h.links) (ap (λ l. l.gone.keys) h.links))
-refused (commands.Take from number piece) p q bytes text code is read h = one-refused (Missed from number piece) p q bytes text (commands.Take from number piece) code is read refl refl (left-missed p q from number piece code h)
+refused (commands.Take from number piece) p q bytes text code is read h = one-refused (Missed from number piece code) p q bytes text (commands.Take from number piece) code is read refl refl (left-missed p q from number piece code h)
 refused (commands.Gone server) p q bytes text code is read h = one-refused Rested p q bytes text (commands.Gone server) code is read refl refl (stays-kept (now p) (now q) h.keeps h.outgoing h.incoming h.gone)
 refused (commands.More to) p q bytes text code is read h = absurd h
 refused (commands.Detect server) p q bytes text code is read h = one-refused Rested p q bytes text (commands.Detect server) code is read refl refl (same-stays p q h.1)
@@ -344,19 +354,18 @@ refused (commands.Load chunk) p q bytes text code is read h = one-refused Rested
 
 -- ---- and one that isn't read
 
-passed-over : (fault : ReadFault) (told : List Response) → told ≡ unread_as fault → IsPassedOver told [] × AllByRecursion TellsNoPiece told
-passed-over read_faults.NoMemory told is = (record { code = _; is = inl is; nothing = refl }, subst (AllByRecursion TellsNoPiece) (sym is) (tt, tt))
-passed-over (read_faults.Bad fault) told is = (record { code = _; is = inr is; nothing = refl }, subst (AllByRecursion TellsNoPiece) (sym is) (tt, tt))
+unread : (p q : State) (frame : Option (List ℕ)) (text : List ℕ) (told : List Response) → text ≡ frames told → q ≡ p → AllByRecursion TellsNoPiece told → ComesOf q.links.gone.keys frame told [] → Doing p q frame text
+unread p q frame text told is same none comes = record { told = told; deeds = []; as_frames = is; are_told = record { end = told; is = refl; none = none }; comes = comes; did = ap now (sym same) }
 
-unread : (fault : ReadFault) (p q : State) (frame : Option (List ℕ)) (text : List ℕ) (told : List Response) → text ≡ frames told → IsUnread fault p q told → (IsPassedOver told [] → ComesOf q.links.gone.keys frame told []) → Doing p q frame text
-unread fault p q frame text told is h comes =
-    let over = passed-over fault told h.is in
-    record { told = told; deeds = []; as_frames = is; are_told = record { end = told; is = refl; none = over.1 }; comes = comes over.0; did = ap now (sym h.stays) }
+unread-bytes : (fault : ReadFault) (p q : State) (bytes text : List ℕ) (told : List Response) → text ≡ frames told → Fails fault (whole_at command_at bytes) → IsUnread fault p q told → Doing p q (Some bytes) text
+unread-bytes read_faults.NoMemory p q bytes text told is fails h = unread p q (Some bytes) text told is h.stays (subst (AllByRecursion TellsNoPiece) (sym h.is) (tt, tt)) (inr (inr (record { unread = inl h.is; nothing = refl })))
+unread-bytes (read_faults.Bad fault) p q bytes text told is fails h = unread p q (Some bytes) text told is h.stays (subst (AllByRecursion TellsNoPiece) (sym h.is) (tt, tt))
+    (inr (inr (record { unread = inr (fault, (fails, h.is)); nothing = refl })))
 
 pub doing : (p q : State) (frame : Option (List ℕ)) (text : List ℕ) → Answers p frame text q → Doing p q frame text
-doing p q None text h = unread _ p q None text h.0 h.1.0 h.1.1 (λ over. over)
+doing p q None text h = unread p q None text h.0 h.1.0 h.1.1.stays (subst (AllByRecursion TellsNoPiece) (sym h.1.1.is) (tt, tt)) (record { unread = h.1.1.is; nothing = refl })
 doing p q (Some bytes) text h = elim h.1.1 [
-  | inl none ↦ unread none.0 p q (Some bytes) text h.0 h.1.0 none.1.1 (λ over. inr (inr over))
+  | inl none ↦ unread-bytes none.0 p q bytes text h.0 h.1.0 none.1.0 none.1.1
   | inr one ↦ elim one.1.1 [
     | inl goes ↦ carried one.0 p q bytes text h.0 h.1.0 one.1.0 goes
     | inr fault ↦ refused one.0 p q bytes text fault.code (h.1.0 ∙ ap frames fault.is) one.1.0 fault.refuses

@@ -1,14 +1,12 @@
 -- The pieces that frames bring, and those of them that count.
-use Rattle.std.proofs.Common.{◌≡◌, ℕ, ◌+◌, ◌==◌, ◌∙◌, ap, sym, refl, subst, cond, List, [], ◌∷◌, ◌++◌, append_assoc, append-nil, Bool, true, false, Option, Some, None, inl, inr, Result, Ok, Err}
+use Rattle.std.proofs.Common.{◌≡◌, ℕ, ◌+◌, ◌==◌, ◌∙◌, ap, sym, refl, subst, cond, List, [], ◌∷◌, ◌++◌, append-nil, Bool, true, false, Option, Some, None, inl, inr, Result, Ok, Err}
 use Rattle.std.specs.Prelude.{◌⊎◌, ⊤}
 use Rattle.std.proofs.lemmas.List.Concat.{flat_map-append}
 use Rattle.cq_base.specs.declared.party.Party.{Party}
 use Rattle.cq_base.specs.declared.party.Party.TheVariants as parties
 use Rattle.cq_chain.specs.declared.message.Message.{Message}
 use Rattle.cq_chain.specs.Parties.{same}
-use Rattle.cq_chain_wire.specs.declared.reader.Progress.{Progress}
-use Rattle.cq_chain_wire.specs.declared.reader.Progress.TheVariants.{More, Whole}
-use Rattle.cq_chain_wire.specs.Feeding.{all_fed, next_fed, piece_fed}
+use Rattle.cq_chain_wire.specs.Feeding.{all_fed}
 use Rattle.cq_frames.specs.declared.command.Command.{Command}
 use Rattle.cq_frames.specs.declared.command.Command.TheVariants as commands
 use Rattle.cq_frames.specs.declared.response.Response.{Response}
@@ -18,21 +16,21 @@ use Rattle.cq_frames.specs.Reading.{command_at}
 use Rattle.cq_frame_loop.specs.Chains.{Step}
 use Rattle.cq_server_process.specs.declared.process.ServerProcess.{ServerProcess}
 use Rattle.cq_server_process.specs.Answers.{State}
-use Rattle.cq_store_wire.specs.declared.build.State as builds
+use Rattle.cq_process.specs.Taking.{nothing}
 use Rattle.cq_wire.specs.declared.fault.WireFault.{WireFault}
-use Rattle.cq_wire.specs.Reading.{◌>>=◌, whole_at}
+use Rattle.cq_wire.specs.Reading.{whole_at}
 use Rattle.cq_process_laws.specs.Deeds.{Acted, AllTo, AreTurns, Came, Deed, Ended, IsInTurns, Lost, Missed, Read, Rested, Threw, Told, in_turns}
-use Rattle.cq_process_laws.specs.Passing.{WasBrought, WasRead, WereBrought, WereRead, brought_by, brought_in, last_refused, of_number, taken, tries_from, try_from, was_refused}
-use Rattle.cq_process_laws.specs.Runs.{AreDone, BeginsWith, ComesOf, Done, IsCarriedOut, PutsForNamed, IsPassedOver, IsRefusedWith, brought_from, deeds_in, state_of}
-use Rattle.cq_process_laws.proofs.Coming.{Tried, taken-last}
-use Rattle.cq_process_laws.proofs.Numbering.{number-both, refused-last}
+use Rattle.cq_process_laws.specs.Passing.{AreGoingOn, WasRead, WereRead, again, brought_by, brought_in, if_kept, kept_of, last_again, of_number, refusal_of}
+use Rattle.cq_process_laws.specs.Runs.{AreDone, BeginsWith, ComesOf, Done, IsCarriedOut, PutsForNamed, IsRefusedWith, IsUnreadAs, brought_from, deeds_in, state_of}
+use Rattle.cq_process_laws.proofs.Coming.{Tried, tries_from, try_from}
+use Rattle.cq_process_laws.proofs.Numbering.{number-both}
 
--- ---- lists of which some that were refused are left out
+-- ---- lists of which some are left out that were refused for want of memory
 
 abbrev pub LeavesOut : List Tried → List Tried → Type 0
 LeavesOut [] [] = ⊤
 LeavesOut [] (t ∷ ts) = ⊥
-LeavesOut (x ∷ xs) ts = ((x.1 ≡ true) × LeavesOut xs ts) ⊎ ((rest : List Tried) × ((ts ≡ x ∷ rest) × LeavesOut xs rest))
+LeavesOut (x ∷ xs) ts = ((x.1 ≡ Some 20) × LeavesOut xs ts) ⊎ ((rest : List Tried) × ((ts ≡ x ∷ rest) × LeavesOut xs rest))
 
 leaves-same : (xs : List Tried) → LeavesOut xs xs
 leaves-same [] = tt
@@ -57,93 +55,67 @@ pub record IsCut (first : Bool) (all front back : List Tried) : Type 0 where
   pub before : List Tried
   pub behind : List Tried
   pub is : all ≡ before ++ behind
-  pub apart : last_refused first before ≡ last_refused first front
+  pub begins : last_again first before ≡ last_again first front
   pub leaves : LeavesOut behind back
 
 cut : (first : Bool) (all front back : List Tried) → LeavesOut all (front ++ back) → IsCut first all front back
-cut first all [] back h = record { before = []; behind = all; is = refl; apart = refl; leaves = h }
+cut first all [] back h = record { before = []; behind = all; is = refl; begins = refl; leaves = h }
 cut first [] (t ∷ front) back h = absurd h
 cut first (x ∷ all) (t ∷ front) back (inl h) =
-    let c = cut x.1 all (t ∷ front) back h.1 in
-    record { before = x ∷ c.before; behind = c.behind; is = ap (λ zs. x ∷ zs) c.is; apart = c.apart; leaves = c.leaves }
+    let c = cut (again x.1) all (t ∷ front) back h.1 in
+    record { before = x ∷ c.before; behind = c.behind; is = ap (λ zs. x ∷ zs) c.is; begins = c.begins; leaves = c.leaves }
 cut first (x ∷ all) (t ∷ front) back (inr h) =
-    let c = cut x.1 all front back (subst (LeavesOut all) (sym (cons-tail t x (front ++ back) h.0 h.1.0)) h.1.1) in
+    let c = cut (again x.1) all front back (subst (LeavesOut all) (sym (cons-tail t x (front ++ back) h.0 h.1.0)) h.1.1) in
     let same : t ≡ x = cons-head t x (front ++ back) h.0 h.1.0 in
-    record { before = x ∷ c.before; behind = c.behind; is = ap (λ zs. x ∷ zs) c.is; apart = c.apart ∙ ap (λ (y : Tried). last_refused y.1 front) (sym same); leaves = c.leaves }
+    record { before = x ∷ c.before; behind = c.behind; is = ap (λ zs. x ∷ zs) c.is; begins = c.begins ∙ ap (λ (y : Tried). last_again (again y.1) front) (sym same); leaves = c.leaves }
 
-bind-fed : (r : Result Progress WireFault) (f g : Progress → Result Progress WireFault) → ((n : Progress) → f n ≡ g n) → (r >>= f) ≡ (r >>= g)
-bind-fed (Ok n) f g h = h n
-bind-fed (Err e) f g h = refl
+-- the pieces of a message with those that are left out between them
+pub record IsWalked (all pieces : List Tried) (last : Tried) : Type 0 where
+  pub front : List Tried
+  pub later : List Tried
+  pub is : all ≡ front ++ last ∷ later
+  pub goes_on : AreGoingOn front
+  pub kept : kept_of front ≡ kept_of pieces
 
-bind-twice : (r : Result Progress WireFault) (f g : Progress → Result Progress WireFault) → (r >>= λ n. f n >>= g) ≡ ((r >>= f) >>= g)
-bind-twice (Ok n) f g = refl
-bind-twice (Err e) f g = refl
-
-fed-both : (xs ys : List (List ℕ)) (p : Progress) → all_fed (xs ++ ys) p ≡ (all_fed xs p >>= λ n. all_fed ys n)
-unfolding all_fed
-fed-both [] ys p = refl
-fed-both (x ∷ xs) ys p = bind-fed (next_fed x p) (λ n. all_fed (xs ++ ys) n) (λ n. all_fed xs n >>= λ m. all_fed ys m) (λ n. fed-both xs ys n) ∙ bind-twice (next_fed x p) (λ n. all_fed xs n) (λ m. all_fed ys m)
-
--- what is read on from there
-fed-on : (xs ys : List (List ℕ)) (p q : Progress) → all_fed xs p ≡ Ok q → all_fed (xs ++ ys) p ≡ all_fed ys q
-fed-on xs ys p q h = fed-both xs ys p ∙ ap (λ (r : Result Progress WireFault). r >>= λ n. all_fed ys n) h
-
--- behind a piece of which more are left the others are read
-pub record ReadsOn (x : List ℕ) (rest : List (List ℕ)) (so_far : Option builds.State) (m : Message) : Type 0 where
-  pub next : Option builds.State
-  pub one : all_fed (x ∷ []) (More so_far) ≡ Ok (More next)
-  pub all : all_fed rest (More next) ≡ Ok (Whole m)
-
-reads-on : (x last : List ℕ) (pieces : List (List ℕ)) (so_far : Option builds.State) (m : Message) → all_fed (x ∷ (pieces ++ last ∷ [])) (More so_far) ≡ Ok (Whole m) → ReadsOn x (pieces ++ last ∷ []) so_far m
-unfolding all_fed
-reads-on x last pieces so_far m h = by (piece_fed x so_far) refl h where
-  ends : (texts : List (List ℕ)) (one : Message) → all_fed (texts ++ last ∷ []) (Whole one) ≡ Ok (Whole m) → ⊥
-  ends [] one e = absurd cc
-  ends (t ∷ texts) one e = absurd cc
-
-  by : (r : Result Progress WireFault) → piece_fed x so_far ≡ r → (r >>= λ n. all_fed (pieces ++ last ∷ []) n) ≡ Ok (Whole m) → ReadsOn x (pieces ++ last ∷ []) so_far m
-  by (Ok (More next)) is k = record { next = next; one = ap (λ (r : Result Progress WireFault). r >>= λ n. all_fed [] n) is; all = k }
-  by (Ok (Whole one)) is k = absurd (ends pieces one k)
-  by (Err e) is k = absurd cc
-
-none-fed : (so_far : Option builds.State) → all_fed [] (More so_far) ≡ Ok (More so_far)
-unfolding all_fed
-none-fed so_far = refl
-
--- From where the last piece was refused, a run of pieces was read, and then come others, of which some are left out.
-walked : (m : Message) (last : List ℕ) (refused : Bool) (later : List Tried) (all before : List Tried) (run : List (List ℕ)) (behind : List Tried) (pieces : List (List ℕ)) (start so_far : Option builds.State)
-    → all ≡ before ++ (taken run ++ behind) → last_refused true before ≡ true → all_fed run (More start) ≡ Ok (More so_far) → LeavesOut behind (taken pieces ++ (last, refused) ∷ later) → all_fed (pieces ++ last ∷ []) (More so_far) ≡ Ok (Whole m) → WasBrought m all
-walked m last refused later all before run [] [] start so_far is apart ran leaves read = absurd leaves
-walked m last refused later all before run [] (p ∷ pieces) start so_far is apart ran leaves read = absurd leaves
-walked m last refused later all before run (x ∷ behind) pieces start so_far is apart ran (inl h) read =
-    walked m last refused later all (before ++ (taken run ++ x ∷ [])) [] behind pieces so_far so_far
-    (is ∙ ap (λ zs. before ++ zs) (sym (append_assoc (taken run) (x ∷ []) behind)) ∙ sym (append_assoc before (taken run ++ x ∷ []) behind))
-    (ap (last_refused true) (sym (append_assoc before (taken run) (x ∷ []))) ∙ refused-last true (before ++ taken run) x.0 x.1 ∙ h.0) (none-fed so_far) h.1 read
-walked m last refused later all before run (x ∷ behind) [] start so_far is apart ran (inr h) read =
-    let same : (last, refused) ≡ x = cons-head (last, refused) x later h.0 h.1.0 in
+walked : (all pieces later : List Tried) (last : Tried) → AreGoingOn pieces → LeavesOut all (pieces ++ last ∷ later) → IsWalked all pieces last
+walked [] [] later last goes h = absurd h
+walked [] (x ∷ pieces) later last goes h = absurd h
+walked (x ∷ all) pieces later last goes (inl h) =
+    let w = walked all pieces later last goes h.1 in
     record {
-      before = before;
-      so_far = start;
-      pieces = run;
-      last = last;
-      refused = refused;
-      later = behind;
-      are = is ∙ ap (λ (y : Tried). before ++ (taken run ++ y ∷ behind)) (sym same);
-      apart = apart;
-      whole = fed-on run (last ∷ []) (More start) (More so_far) ran ∙ read;
+      front = x ∷ w.front;
+      later = w.later;
+      is = ap (λ zs. x ∷ zs) w.is;
+      goes_on = (ap again h.0, w.goes_on);
+      kept = ap (λ (o : Option ℕ). if_kept x.0 o ++ kept_of w.front) h.0 ∙ w.kept;
     }
-walked m last refused later all before run (x ∷ behind) (p ∷ pieces) start so_far is apart ran (inr h) read =
-    let same : (p, false) ≡ x = cons-head (p, false) x (taken pieces ++ (last, refused) ∷ later) h.0 h.1.0 in
-    let rest = cons-tail (p, false) x (taken pieces ++ (last, refused) ∷ later) h.0 h.1.0 in
-    let on = reads-on p last pieces so_far m read in
-    walked m last refused later all before (run ++ p ∷ []) behind pieces start on.next
-    (is ∙ ap (λ (y : Tried). before ++ (taken run ++ y ∷ behind)) (sym same) ∙ ap (λ zs. before ++ zs) (sym (append_assoc (taken run) ((p, false) ∷ []) behind) ∙ ap (λ zs. zs ++ behind) (sym (taken-last run p))))
-    apart (fed-on run (p ∷ []) (More start) (More so_far) ran ∙ on.one) (subst (LeavesOut behind) (sym rest) h.1.1) on.all
+walked (x ∷ all) [] later last goes (inr h) = record { front = []; later = all; is = ap (λ (y : Tried). y ∷ all) (sym (cons-head last x later h.0 h.1.0)); goes_on = tt; kept = refl }
+walked (x ∷ all) (p ∷ pieces) later last goes (inr h) =
+    let same : p ≡ x = cons-head p x (pieces ++ last ∷ later) h.0 h.1.0 in
+    let w = walked all pieces later last goes.1 (subst (LeavesOut all) (sym (cons-tail p x (pieces ++ last ∷ later) h.0 h.1.0)) h.1.1) in
+    record {
+      front = p ∷ w.front;
+      later = w.later;
+      is = ap (λ zs. x ∷ zs) w.is ∙ ap (λ (y : Tried). y ∷ (w.front ++ last ∷ w.later)) (sym same);
+      goes_on = (goes.0, w.goes_on);
+      kept = ap (λ zs. if_kept p.0 p.1 ++ zs) w.kept;
+    }
 
-was-brought : (m : Message) (all tries : List Tried) → LeavesOut all tries → WasRead m tries → WasBrought m all
+was-brought : (m : Message) (all tries : List Tried) → LeavesOut all tries → WasRead m tries → WasRead m all
 was-brought m all tries leaves h =
-    let c = cut true all h.before (taken h.pieces ++ (h.last, h.refused) ∷ h.later) (subst (LeavesOut all) h.are leaves) in
-    walked m h.last h.refused h.later all c.before [] c.behind h.pieces None None c.is (c.apart ∙ h.apart) (none-fed None) c.leaves h.whole
+    let c = cut true all h.before (h.pieces ++ (h.last, h.refusal) ∷ h.later) (subst (LeavesOut all) h.are leaves) in
+    let w = walked c.behind h.pieces h.later (h.last, h.refusal) h.goes_on c.leaves in
+    record {
+      before = c.before;
+      pieces = w.front;
+      last = h.last;
+      refusal = h.refusal;
+      later = w.later;
+      are = c.is ∙ ap (λ zs. c.before ++ zs) w.is;
+      begins = c.begins ∙ h.begins;
+      goes_on = w.goes_on;
+      whole = ap (λ texts. all_fed (texts ++ h.last ∷ []) nothing) w.kept ∙ h.whole;
+    }
 
 -- ---- by number
 
@@ -153,7 +125,7 @@ Numbered = ℕ × Tried
 abbrev pub LeavesAll : List Numbered → List Numbered → Type 0
 LeavesAll all tries = (k : ℕ) → LeavesOut (of_number k all) (of_number k tries)
 
-were-brought : (k : ℕ) (ms : List Message) (all tries : List Numbered) → LeavesAll all tries → WereRead k ms tries → WereBrought k ms all
+were-brought : (k : ℕ) (ms : List Message) (all tries : List Numbered) → LeavesAll all tries → WereRead k ms tries → WereRead k ms all
 were-brought k [] all tries leaves h = tt
 were-brought k (m ∷ ms) all tries leaves h = (was-brought m (of_number k all) (of_number k tries) (leaves k) h.0, were-brought (k + 1) ms all tries leaves h.1)
 
@@ -166,7 +138,7 @@ sent-none from to gone (Rested ∷ deeds) h = sent-none from to gone deeds h.1
 sent-none from to gone (Acted action ∷ deeds) h = absurd h.0
 sent-none from to gone (Came other number piece ∷ deeds) h = absurd h.0
 sent-none from to gone (Read other number piece message ∷ deeds) h = absurd h.0
-sent-none from to gone (Missed other number piece ∷ deeds) h = absurd h.0
+sent-none from to gone (Missed other number piece code ∷ deeds) h = absurd h.0
 sent-none from to gone (Lost party ∷ deeds) h = absurd h.0
 sent-none from to gone (Told other number piece ∷ deeds) h = sent-none from to gone deeds h.1
 sent-none from to gone (Ended other number piece message ∷ deeds) h = sent-none from to gone deeds h.1
@@ -189,11 +161,11 @@ own-none from (commands.More to) gone own h = sent-none from to gone own h
 own-none from (commands.Gone server) gone own h = sent-none from (parties.Server server) gone own h
 own-none from command gone own h = ap (tries_from from) h
 
-begun-tries : (from : Party) (command : Command) (first : List Deed) → BeginsWith command first → brought_by from false (Ok command) ≡ tries_from from first
+begun-tries : (from : Party) (command : Command) (first : List Deed) → BeginsWith command first → brought_by from None (Ok command) ≡ tries_from from first
 begun-tries from (commands.Arrive clock request) first h = sym (ap (tries_from from) h)
 begun-tries from (commands.Ask query) first h = sym (ap (tries_from from) h)
-begun-tries from (commands.Take other number piece) first (inl h) = sym (append-nil (brought_by from false (Ok (commands.Take other number piece)))) ∙ sym (ap (tries_from from) h)
-begun-tries from (commands.Take other number piece) first (inr h) = sym (append-nil (brought_by from false (Ok (commands.Take other number piece)))) ∙ sym (ap (tries_from from) h.1)
+begun-tries from (commands.Take other number piece) first (inl h) = sym (append-nil (brought_by from None (Ok (commands.Take other number piece)))) ∙ sym (ap (tries_from from) h)
+begun-tries from (commands.Take other number piece) first (inr h) = sym (append-nil (brought_by from None (Ok (commands.Take other number piece)))) ∙ sym (ap (tries_from from) h.1)
 begun-tries from (commands.Gone server) first h = sym (ap (tries_from from) h)
 begun-tries from (commands.More to) first h = sym (ap (tries_from from) h)
 begun-tries from (commands.Detect server) first h = absurd h
@@ -201,50 +173,44 @@ begun-tries from (commands.Join server) first h = absurd h
 begun-tries from commands.Save first h = absurd h
 begun-tries from (commands.Load chunk) first h = absurd h
 
-refused-tries : (from : Party) (command : Command) (deeds : List Deed) → IsRefusedWith command deeds → brought_by from true (Ok command) ≡ tries_from from deeds
-refused-tries from (commands.Take other number piece) deeds h = sym (append-nil (brought_by from true (Ok (commands.Take other number piece)))) ∙ sym (ap (tries_from from) h)
-refused-tries from (commands.Arrive clock request) deeds h = sym (ap (tries_from from) h)
-refused-tries from (commands.Ask query) deeds h = sym (ap (tries_from from) h)
-refused-tries from (commands.Gone server) deeds h = sym (ap (tries_from from) h)
-refused-tries from (commands.More to) deeds h = sym (ap (tries_from from) h)
-refused-tries from (commands.Detect server) deeds h = sym (ap (tries_from from) h)
-refused-tries from (commands.Join server) deeds h = sym (ap (tries_from from) h)
-refused-tries from commands.Save deeds h = sym (ap (tries_from from) h)
-refused-tries from (commands.Load chunk) deeds h = sym (ap (tries_from from) h)
+refused-tries : (from : Party) (command : Command) (code : ℕ) (deeds : List Deed) → IsRefusedWith command code deeds → brought_by from (Some code) (Ok command) ≡ tries_from from deeds
+refused-tries from (commands.Take other number piece) code deeds h = sym (append-nil (brought_by from (Some code) (Ok (commands.Take other number piece)))) ∙ sym (ap (tries_from from) h)
+refused-tries from (commands.Arrive clock request) code deeds h = sym (ap (tries_from from) h)
+refused-tries from (commands.Ask query) code deeds h = sym (ap (tries_from from) h)
+refused-tries from (commands.Gone server) code deeds h = sym (ap (tries_from from) h)
+refused-tries from (commands.More to) code deeds h = sym (ap (tries_from from) h)
+refused-tries from (commands.Detect server) code deeds h = sym (ap (tries_from from) h)
+refused-tries from (commands.Join server) code deeds h = sym (ap (tries_from from) h)
+refused-tries from commands.Save code deeds h = sym (ap (tries_from from) h)
+refused-tries from (commands.Load chunk) code deeds h = sym (ap (tries_from from) h)
 
-done-told : (so_far : Bool) (before : List Response) (standing : Standing) → was_refused so_far (before ++ responses.Done standing ∷ []) ≡ false
+done-told : (so_far : Option ℕ) (before : List Response) (standing : Standing) → refusal_of so_far (before ++ responses.Done standing ∷ []) ≡ None
 done-told so_far [] standing = refl
 done-told so_far (one ∷ before) standing = done-told _ before standing
-
-over-told : (told : List Response) (deeds : List Deed) → IsPassedOver told deeds → was_refused false told ≡ true
-over-told told deeds h = elim h.is [
-  | inl is ↦ ap (was_refused false) is
-  | inr is ↦ ap (was_refused false) is
-]
 
 leaves-equal : (xs ys : List Numbered) → xs ≡ ys → LeavesAll xs ys
 leaves-equal xs ys same k = subst (λ zs. LeavesOut (of_number k xs) (of_number k zs)) same (leaves-same (of_number k xs))
 
--- a piece that was refused is left out
-leaves-one : (test : Bool) (number : ℕ) (piece : List ℕ) → LeavesAll (cond test ((number, (piece, true)) ∷ []) []) []
+-- a piece that was refused for want of memory is left out
+leaves-one : (test : Bool) (number : ℕ) (piece : List ℕ) → LeavesAll (cond test ((number, (piece, Some 20)) ∷ []) []) []
 leaves-one false number piece k = tt
 leaves-one true number piece k = go (k == number) where
-  go : (t : Bool) → LeavesOut (cond t ((piece, true) ∷ []) []) []
+  go : (t : Bool) → LeavesOut (cond t ((piece, Some 20) ∷ []) []) []
   go true = inl (refl, tt)
   go false = tt
 
-leaves-over : (from : Party) (read : Result Command WireFault) → LeavesAll (brought_by from true read) []
+leaves-over : (from : Party) (read : Result Command WireFault) → LeavesAll (brought_by from (Some 20) read) []
 leaves-over from (Ok (commands.Take other number piece)) = leaves-one (same from other) number piece
 leaves-over from (Ok other) = λ k. tt
 leaves-over from (Err fault) = λ k. tt
 
-passed-leaves : (from : Party) (bytes : List ℕ) (told : List Response) (deeds : List Deed) → IsPassedOver told deeds → LeavesAll (brought_in from (Some bytes) told) (tries_from from deeds)
-passed-leaves from bytes told deeds h = subst (λ ds. LeavesAll (brought_in from (Some bytes) told) (tries_from from ds)) (sym h.nothing)
-    (subst (λ refused. LeavesAll (brought_by from refused (whole_at command_at bytes)) []) (sym (over-told told deeds h)) (leaves-over from (whole_at command_at bytes)))
+passed-leaves : (from : Party) (bytes : List ℕ) (told : List Response) → IsUnreadAs (Some bytes) told → LeavesAll (brought_in from (Some bytes) told) []
+passed-leaves from bytes told (inl is) = subst (λ refusal. LeavesAll (brought_by from refusal (whole_at command_at bytes)) []) (sym (ap (refusal_of None) is)) (leaves-over from (whole_at command_at bytes))
+passed-leaves from bytes told (inr one) = subst (λ read. LeavesAll (brought_by from (refusal_of None told) read) []) (sym one.1.0) (λ k. tt)
 
 carried-tries : (from : Party) (gone : List Party) (bytes : List ℕ) (told : List Response) (deeds : List Deed) → IsCarriedOut gone bytes told deeds → brought_in from (Some bytes) told ≡ tries_from from deeds
 carried-tries from gone bytes told deeds h =
-    ap (λ refused. brought_by from refused (whole_at command_at bytes)) (ap (was_refused false) h.ends ∙ done-told false h.before h.standing) ∙ ap (brought_by from false) h.read ∙ begun-tries from h.command h.first h.begins
+    ap (λ refusal. brought_by from refusal (whole_at command_at bytes)) (ap (refusal_of None) h.ends ∙ done-told None h.before h.standing) ∙ ap (brought_by from None) h.read ∙ begun-tries from h.command h.first h.begins
     ∙ sym (append-nil (tries_from from h.first)) ∙ ap (λ zs. tries_from from h.first ++ zs) (sym (none-both from h.own h.turns (own-none from h.command gone h.own h.is_own) (all-none from gone h.turns h.in_turns)))
     ∙ sym (flat_map-append (try_from from) h.first (h.own ++ h.turns)) ∙ ap (tries_from from) (sym h.is)
 
@@ -252,8 +218,8 @@ frame-leaves : (from : Party) (gone : List Party) (frame : Option (List ℕ)) (t
 frame-leaves from gone None told deeds h = leaves-equal [] (tries_from from deeds) (sym (ap (tries_from from) h.nothing))
 frame-leaves from gone (Some bytes) told deeds (inl h) = leaves-equal (brought_in from (Some bytes) told) (tries_from from deeds) (carried-tries from gone bytes told deeds h)
 frame-leaves from gone (Some bytes) told deeds (inr (inl h)) = leaves-equal (brought_in from (Some bytes) told) (tries_from from deeds)
-    (ap (λ refused. brought_by from refused (whole_at command_at bytes)) (ap (was_refused false) h.is) ∙ ap (brought_by from true) h.read ∙ refused-tries from h.command deeds h.refused)
-frame-leaves from gone (Some bytes) told deeds (inr (inr h)) = passed-leaves from bytes told deeds h
+    (ap (λ refusal. brought_by from refusal (whole_at command_at bytes)) (ap (refusal_of None) h.is) ∙ ap (brought_by from (Some h.code)) h.read ∙ refused-tries from h.command h.code deeds h.refused)
+frame-leaves from gone (Some bytes) told deeds (inr (inr h)) = subst (λ ds. LeavesAll (brought_in from (Some bytes) told) (tries_from from ds)) (sym h.nothing) (passed-leaves from bytes told h.unread)
 
 -- ---- of all frames
 
@@ -269,5 +235,5 @@ all-leaves from p (step ∷ steps) (one ∷ rest) h k =
     (sym (ap (of_number k) (flat_map-append (try_from from) one.deeds (deeds_in rest)) ∙ number-both k (tries_from from one.deeds) (tries_from from (deeds_in rest))))
     (leaves-both (of_number k (brought_in from step.frame one.told)) (of_number k (brought_from from steps rest)) (of_number k (tries_from from one.deeds)) (of_number k (tries_from from (deeds_in rest))) here there))
 
-pub all-brought : (from : Party) (p : State) (steps : List (Step ServerProcess)) (done : List Done) (ms : List Message) → AreDone p steps done → WereRead 1 ms (tries_from from (deeds_in done)) → WereBrought 1 ms (brought_from from steps done)
+pub all-brought : (from : Party) (p : State) (steps : List (Step ServerProcess)) (done : List Done) (ms : List Message) → AreDone p steps done → WereRead 1 ms (tries_from from (deeds_in done)) → WereRead 1 ms (brought_from from steps done)
 all-brought from p steps done ms h read = were-brought 1 ms (brought_from from steps done) (tries_from from (deeds_in done)) (all-leaves from p steps done h) read

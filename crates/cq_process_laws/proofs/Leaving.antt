@@ -247,7 +247,7 @@ left-by to Rested a b ms ps d h = left-rests to a b ms ps h (λ here. subst (λ 
 left-by to (Acted action) a b ms ps d h = left-acted to a b ms ps action d.own (left-same to a b ms ps h d.gone d.outgoing)
 left-by to (Came from number piece) a b ms ps d h = left-same to a b ms ps h d.only.gone d.only.outgoing
 left-by to (Read from number piece message) a b ms ps d h = left-same to a b ms ps h d.only.gone d.only.outgoing
-left-by to (Missed from number piece) a b ms ps d h = left-same to a b ms ps h d.only.gone d.only.outgoing
+left-by to (Missed from number piece code) a b ms ps d h = left-same to a b ms ps h d.only.gone d.only.outgoing
 left-by to (Lost party) a b ms ps d h = left-rests to a b ms ps h (lived to party a.gone b.gone (d.gone to)) (subst (λ ends. Rests (end_of a.outgoing to) (end_of ends to)) (sym d.outgoing) (rests-same (end_of a.outgoing to)))
 left-by to (Told other number piece) a b ms ps d h = go (same to other) refl where
   go : (t : Bool) → same to other ≡ t → Left to b (ms ++ []) (ps ++ (cond t ((number, piece) ∷ []) [] ++ []))

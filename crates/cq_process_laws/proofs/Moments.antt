@@ -109,16 +109,20 @@ pub record IsRead (from : Party) (number : ℕ) (piece : List ℕ) (message : ru
   pub left : (came_to b from).next ≡ nothing
 
 -- what is left where a piece of the next message is refused: nothing of the message, or all of it
-abbrev pub IsLetGo : Progress → List ℕ → Progress → Type 0
-IsLetGo before piece after = (after ≡ nothing) ⊎ ((m : rust.Message) × ((read_on piece before ≡ Ok (Whole m)) × (after ≡ Whole m)))
+abbrev pub IsLetGo : Progress → List ℕ → ℕ → Progress → Type 0
+IsLetGo before piece code after = ((after ≡ nothing) × (code ≡ 20 → ⊥)) ⊎ ((m : rust.Message) × ((read_on piece before ≡ Ok (Whole m)) × (after ≡ Whole m)))
+
+-- the number isn't the next one, and all stays
+abbrev pub IsOutOfTurn : ℕ → ℕ → Received → Received → Type 0
+IsOutOfTurn number code before after = (number ≡ before.taken + 1 → ⊥) × ((code ≡ 20 → ⊥) × (after.next ≡ before.next))
 
 -- A piece is refused.
-pub record Misses (from : Party) (number : ℕ) (piece : List ℕ) (a b : Now) : Type 0 where
+pub record Misses (from : Party) (number : ℕ) (piece : List ℕ) (code : ℕ) (a b : Now) : Type 0 where
   pub only : OnlyFrom from a b
   pub keeps : chain.Keeps a.core b.core
   pub taken : (came_to b from).taken ≡ (came_to a from).taken
   pub left : is_gone a.gone from ≡ false
-      → ((number ≡ (came_to a from).taken + 1 → ⊥) × ((came_to b from).next ≡ (came_to a from).next)) ⊎ ((number ≡ (came_to a from).taken + 1) × IsLetGo (came_to a from).next piece (came_to b from).next)
+      → IsOutOfTurn number code (came_to a from) (came_to b from) ⊎ ((number ≡ (came_to a from).taken + 1) × IsLetGo (came_to a from).next piece code (came_to b from).next)
 
 -- A party is gone.
 pub record Loses (party : Party) (a b : Now) : Type 0 where
@@ -168,7 +172,7 @@ Did Rested a b = Stays a b
 Did (Acted action) a b = ByItself action a b
 Did (Came from number piece) a b = Comes from number piece a b
 Did (Read from number piece message) a b = IsRead from number piece message a b
-Did (Missed from number piece) a b = Misses from number piece a b
+Did (Missed from number piece code) a b = Misses from number piece code a b
 Did (Lost party) a b = Loses party a b
 Did (Told to number piece) a b = Tells to number piece a b
 Did (Ended to number piece message) a b = Ends to number piece message a b

@@ -1,11 +1,11 @@
 -- Lists of what has numbers, and of what is put and taken.
-use Rattle.std.proofs.Common.{◌≡◌, ℕ, ◌+◌, ◌==◌, ◌∙◌, ap, sym, refl, cond, List, [], ◌∷◌, ◌++◌, append_assoc, append-nil, length, map, Bool, true, false, arith}
+use Rattle.std.proofs.Common.{◌≡◌, ℕ, ◌+◌, ◌==◌, ◌∙◌, ap, sym, refl, cond, List, [], ◌∷◌, ◌++◌, append_assoc, append-nil, length, map, Bool, true, false, Option, arith}
 use Rattle.std.proofs.lemmas.Bool.{eq-eqb, ne_eqb}
 use Rattle.cq_base.specs.declared.party.Party.{Party}
 use Rattle.cq_chain.specs.declared.message.Message.{Message}
 use Rattle.cq_chain.specs.Parties.{same}
 use Rattle.cq_events.specs.Actions.{Action, Put, put_in, put_to, taken_in, taken_from}
-use Rattle.cq_process_laws.specs.Passing.{last_refused, of_number}
+use Rattle.cq_process_laws.specs.Passing.{again, last_again, of_number}
 
 pub number-both : {A : Type 0} (k : ℕ) (xs ys : List (ℕ × A)) → of_number k (xs ++ ys) ≡ of_number k xs ++ of_number k ys
 number-both k [] ys = refl
@@ -26,9 +26,9 @@ pub length-last : {A : Type 0} (xs : List A) (x : A) → length (xs ++ x ∷ [])
 length-last [] x = refl
 length-last (y ∷ xs) x = let more = length-last xs x in omega arith
 
-pub refused-last : (first : Bool) (xs : List (List ℕ × Bool)) (piece : List ℕ) (refused : Bool) → last_refused first (xs ++ (piece, refused) ∷ []) ≡ refused
-refused-last first [] piece refused = refl
-refused-last first (x ∷ xs) piece refused = refused-last x.1 xs piece refused
+pub again-last : (first : Bool) (xs : List (List ℕ × Option ℕ)) (x : List ℕ × Option ℕ) → last_again first (xs ++ x ∷ []) ≡ again x.1
+again-last first [] x = refl
+again-last first (y ∷ xs) x = again-last (again y.1) xs x
 
 pub put-both : (to : Party) (xs ys : List Action) → put_to to (xs ++ ys) ≡ put_to to xs ++ put_to to ys
 put-both to [] ys = refl

@@ -96,6 +96,5 @@ runs-are-actions s first last steps new chain =
       lives = inr (core_of (state_of first), core_of (state_of last), stands, plain (all_actions all.done) (core_of (state_of first)) (core_of (state_of last)) acts);
       out = λ to. subst (ArePutAsTold (is_gone last.links.gone.keys to) (put_to to (all_actions all.done))) (sym (all-pieces to (state_of first) steps all.done all.each))
           (put-as-told to (deeds_in all.done) (now (state_of first)) (now (state_of last)) (new.outgoing to) all.did);
-      brought = λ from. all-brought from (state_of first) steps all.done (taken_from from (all_actions all.done)) all.each (were-read from (deeds_in all.done) (now (state_of first)) (now (state_of last)) (new.incoming from) all.did);
-      into = λ from. were-read from (deeds_in all.done) (now (state_of first)) (now (state_of last)) (new.incoming from) all.did;
+      into = λ from. all-brought from (state_of first) steps all.done (taken_from from (all_actions all.done)) all.each (were-read from (deeds_in all.done) (now (state_of first)) (now (state_of last)) (new.incoming from) all.did);
     }

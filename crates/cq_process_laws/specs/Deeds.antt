@@ -19,8 +19,8 @@ pub data Deed : Type 0 where
   Came : Party → ℕ → List ℕ → Deed
   -- a piece came, and the message was taken, which is read whole
   Read : Party → ℕ → List ℕ → rust.Message → Deed
-  -- a piece came, and was refused
-  Missed : Party → ℕ → List ℕ → Deed
+  -- a piece came, and was refused by the fault of that number, which comes last
+  Missed : Party → ℕ → List ℕ → ℕ → Deed
   -- that party is gone
   Lost : Party → Deed
   -- a piece is told, and more are left of its message
@@ -37,7 +37,7 @@ actions_of Rested = []
 actions_of (Acted action) = action ∷ []
 actions_of (Came from number piece) = []
 actions_of (Read from number piece message) = Took from message ∷ []
-actions_of (Missed from number piece) = []
+actions_of (Missed from number piece code) = []
 actions_of (Lost party) = []
 actions_of (Told to number piece) = []
 actions_of (Ended to number piece message) = Put to message ∷ []
@@ -53,7 +53,7 @@ responses_of Rested = []
 responses_of (Acted action) = []
 responses_of (Came from number piece) = []
 responses_of (Read from number piece message) = []
-responses_of (Missed from number piece) = []
+responses_of (Missed from number piece code) = []
 responses_of (Lost party) = []
 responses_of (Told to number piece) = responses.Put to number piece ∷ []
 responses_of (Ended to number piece message) = responses.Put to number piece ∷ []
@@ -70,7 +70,7 @@ SendsTo to gone Rested = ⊤
 SendsTo to gone (Acted action) = ⊥
 SendsTo to gone (Came from number piece) = ⊥
 SendsTo to gone (Read from number piece message) = ⊥
-SendsTo to gone (Missed from number piece) = ⊥
+SendsTo to gone (Missed from number piece code) = ⊥
 SendsTo to gone (Lost party) = ⊥
 SendsTo to gone (Told other number piece) = (other ≡ to) × (is_gone gone to ≡ false)
 SendsTo to gone (Ended other number piece message) = (other ≡ to) × (is_gone gone to ≡ false)

@@ -8,7 +8,7 @@ use Rattle.cq_frame_loop.specs.Chains.{IsChain, Step}
 use Rattle.cq_server_process.specs.declared.process.ServerProcess.{ServerProcess}
 use Rattle.cq_server_process.specs.Answers.{Answers, IsNewProcess, State}
 use Rattle.cq_server_process.specs.Processes.{answers}
-use Rattle.cq_process_laws.specs.Passing.{AreFedAsTold, ArePutAsTold, WereBrought}
+use Rattle.cq_process_laws.specs.Passing.{AreFedAsTold, ArePutAsTold, WereRead}
 use Rattle.cq_process_laws.specs.Runs.{Done, IsDone, IsRun, state_of}
 
 -- What a process does of a frame are actions of its core, and all pieces are told.
@@ -21,5 +21,5 @@ RunsAreActions = (s : states.Server) (first last : ServerProcess) (steps : List 
 
 -- Where one process is fed the pieces that another one told for it, it takes what the other one put.
 abbrev pub LinksHandOver : Type 0
-LinksHandOver = (is_gone : Bool) (puts takes : List Message) (told : List (ℕ × List ℕ)) (tries : List (ℕ × (List ℕ × Bool))) → ((m : Message) → Among m puts → IsSound m)
-    → ArePutAsTold is_gone puts told → WereBrought 1 takes tries → AreFedAsTold told tries → IsPrefix takes puts
+LinksHandOver = (is_gone : Bool) (puts takes : List Message) (told : List (ℕ × List ℕ)) (tries : List (ℕ × (List ℕ × Option ℕ))) → ((m : Message) → Among m puts → IsSound m)
+    → ArePutAsTold is_gone puts told → WereRead 1 takes tries → AreFedAsTold told tries → IsPrefix takes puts

@@ -1,24 +1,23 @@
 -- Messages on links, and the pieces that they go by.
-use Rattle.std.specs.Prelude.{◌≡◌, ℕ, ◌+◌, ◌<◌, ◌==◌, List, [], ◌∷◌, ◌++◌, length, map, flat_map, Bool, true, false, if◌then◌else◌, ◌⊎◌, ⊤, Option, None, Some, Result, Ok, Err}
+use Rattle.std.specs.Prelude.{◌≡◌, ℕ, ◌+◌, ◌<◌, ◌==◌, List, [], ◌∷◌, ◌++◌, length, flat_map, Bool, true, false, if◌then◌else◌, ◌⊎◌, ⊤, Option, None, Some, Result, Ok, Err}
+use Rattle.std.specs.List.{AllByRecursion}
 use Rattle.cq_base.specs.declared.party.Party.{Party}
 use Rattle.cq_base.specs.Relations.{IsPrefix}
 use Rattle.cq_chain.specs.declared.message.Message.{Message}
 use Rattle.cq_chain.specs.Parties.{same}
-use Rattle.cq_chain_wire.specs.declared.reader.Progress.TheVariants.{More, Whole}
+use Rattle.cq_chain_wire.specs.declared.reader.Progress.TheVariants.{Whole}
 use Rattle.cq_chain_wire.specs.declared.writer.MessageWriter.{MessageWriter}
 use Rattle.cq_chain_wire.specs.Feeding.{all_fed}
+use Rattle.cq_chain_wire.specs.Pieces.{IsNextPiece}
 use Rattle.cq_frames.specs.declared.command.Command.{Command}
 use Rattle.cq_frames.specs.declared.command.Command.TheVariants as commands
 use Rattle.cq_frames.specs.declared.response.Response.{Response}
 use Rattle.cq_frames.specs.declared.response.Response.TheVariants as responses
-use Rattle.cq_chain_wire.specs.Pieces.{IsNextPiece}
 use Rattle.cq_frames.specs.Reading.{command_at}
 use Rattle.cq_process.specs.Outgoing.{IsFresh}
 use Rattle.cq_process.specs.Taking.{nothing}
-use Rattle.cq_store_wire.specs.declared.build.State.{State}
 use Rattle.cq_wire.specs.declared.fault.WireFault.{WireFault}
 use Rattle.cq_wire.specs.Reading.{whole_at}
-use Rattle.cq_process_laws.specs.Deeds.{Acted, Came, Deed, Ended, Lost, Missed, Read, Rested, Threw, Told}
 
 -- of all that has a number what has that one, in order
 abbrev pub of_number : {A : Type 0} → ℕ → List (ℕ × A) → List A
@@ -85,94 +84,81 @@ pub record ArePutAsTold (is_gone : Bool) (messages : List Message) (pieces : Lis
 
 -- ---- into a process
 
--- the piece that came from a party, with the number of its message, and whether it was refused
-abbrev pub try_from : Party → Deed → List (ℕ × (List ℕ × Bool))
-try_from from Rested = []
-try_from from (Acted action) = []
-try_from from (Came other number piece) = if same from other then (number, (piece, false)) ∷ [] else []
-try_from from (Read other number piece message) = if same from other then (number, (piece, false)) ∷ [] else []
-try_from from (Missed other number piece) = if same from other then (number, (piece, true)) ∷ [] else []
-try_from from (Lost party) = []
-try_from from (Told to number piece) = []
-try_from from (Ended to number piece message) = []
-try_from from (Threw to messages) = []
+-- how a response says that a command was refused, or not read
+abbrev pub refusal_in : Response → Option ℕ
+refusal_in (responses.Refused code) = Some code
+refusal_in (responses.Unread code) = Some code
+refusal_in other = None
 
--- the pieces that came from a party, in order
-abbrev pub tries_from : Party → List Deed → List (ℕ × (List ℕ × Bool))
-tries_from from deeds = flat_map (try_from from) deeds
+-- so does the last one of these
+abbrev pub refusal_of : Option ℕ → List Response → Option ℕ
+refusal_of so_far [] = so_far
+refusal_of so_far (one ∷ rest) = refusal_of (refusal_in one) rest
 
--- pieces that weren't refused
-abbrev pub taken : List (List ℕ) → List (List ℕ × Bool)
-taken pieces = map (λ piece. (piece, false)) pieces
+-- the piece from a party that a command brings, with the number of its message, and why it was refused, if it was
+abbrev pub brought_by : Party → Option ℕ → Result Command WireFault → List (ℕ × (List ℕ × Option ℕ))
+brought_by from refusal (Ok (commands.Take other number piece)) = if same from other then (number, (piece, refusal)) ∷ [] else []
+brought_by from refusal (Ok other) = []
+brought_by from refusal (Err fault) = []
 
--- whether the last of these pieces was refused, and that where there is none
-abbrev pub last_refused : Bool → List (List ℕ × Bool) → Bool
-last_refused so_far [] = so_far
-last_refused so_far (one ∷ rest) = last_refused one.1 rest
+-- the piece that a frame brings, by what was told of it
+abbrev pub brought_in : Party → Option (List ℕ) → List Response → List (ℕ × (List ℕ × Option ℕ))
+brought_in from None told = []
+brought_in from (Some bytes) told = brought_by from (refusal_of None told) (whole_at command_at bytes)
 
--- The message was read whole of some of these pieces, which came one behind another, and of which none but the last was refused: that one
--- may be, where the core didn't take the message then. Before the first of them there is none, or one that was refused.
-pub record WasRead (m : Message) (tries : List (List ℕ × Bool)) : Type 0 where
-  pub before : List (List ℕ × Bool)
-  pub pieces : List (List ℕ)
+-- Behind such a refusal a message begins again. Behind want of memory for anything but the piece (20) it doesn't: that piece can come again.
+abbrev pub again : Option ℕ → Bool
+again None = false
+again (Some code) = if code == 20 then false else true
+
+-- so it is behind the last of these pieces, and that where there is none
+abbrev pub last_again : Bool → List (List ℕ × Option ℕ) → Bool
+last_again so_far [] = so_far
+last_again so_far (one ∷ rest) = last_again (again one.1) rest
+
+-- the piece, if it wasn't refused
+abbrev pub if_kept : List ℕ → Option ℕ → List (List ℕ)
+if_kept piece None = piece ∷ []
+if_kept piece (Some code) = []
+
+-- those that weren't
+abbrev pub kept_of : List (List ℕ × Option ℕ) → List (List ℕ)
+kept_of tries = flat_map (λ one. if_kept one.0 one.1) tries
+
+-- behind none of these a message begins again
+abbrev pub AreGoingOn : List (List ℕ × Option ℕ) → Type 0
+AreGoingOn tries = AllByRecursion (λ one. again one.1 ≡ false) tries
+
+-- The message was read whole of pieces that came one behind another, those left out that were refused for want of memory (20). The last
+-- one may have been refused, too, where the core didn't take the message then. With the first of them the message began, or began again.
+pub record WasRead (m : Message) (tries : List (List ℕ × Option ℕ)) : Type 0 where
+  pub before : List (List ℕ × Option ℕ)
+  pub pieces : List (List ℕ × Option ℕ)
   pub last : List ℕ
-  pub refused : Bool
-  pub later : List (List ℕ × Bool)
-  pub are : tries ≡ before ++ (taken pieces ++ (last, refused) ∷ later)
-  pub apart : last_refused true before ≡ true
-  pub whole : all_fed (pieces ++ last ∷ []) nothing ≡ Ok (Whole m)
+  pub refusal : Option ℕ
+  pub later : List (List ℕ × Option ℕ)
+  pub are : tries ≡ before ++ (pieces ++ (last, refusal) ∷ later)
+  pub begins : last_again true before ≡ true
+  pub goes_on : AreGoingOn pieces
+  pub whole : all_fed (kept_of pieces ++ last ∷ []) nothing ≡ Ok (Whole m)
 
 -- The messages that were taken from a party, which are numbered from k on, were each read of pieces that came with its number.
-abbrev pub WereRead : ℕ → List Message → List (ℕ × (List ℕ × Bool)) → Type 0
+abbrev pub WereRead : ℕ → List Message → List (ℕ × (List ℕ × Option ℕ)) → Type 0
 WereRead k [] tries = ⊤
 WereRead k (m ∷ ms) tries = WasRead m (of_number k tries) × WereRead (k + 1) ms tries
 
--- ---- by the frames that bring pieces
-
--- the response says that a command was refused, or not read
-abbrev pub is_refusal : Response → Bool
-is_refusal (responses.Refused code) = true
-is_refusal (responses.Unread code) = true
-is_refusal other = false
-
--- so does the last one of these
-abbrev pub was_refused : Bool → List Response → Bool
-was_refused so_far [] = so_far
-was_refused so_far (one ∷ rest) = was_refused (is_refusal one) rest
-
--- the piece from a party that a command brings, with the number of its message, and whether it was refused
-abbrev pub brought_by : Party → Bool → Result Command WireFault → List (ℕ × (List ℕ × Bool))
-brought_by from refused (Ok (commands.Take other number piece)) = if same from other then (number, (piece, refused)) ∷ [] else []
-brought_by from refused (Ok other) = []
-brought_by from refused (Err fault) = []
-
--- the piece that a frame brings, by what was told of it
-abbrev pub brought_in : Party → Option (List ℕ) → List Response → List (ℕ × (List ℕ × Bool))
-brought_in from None told = []
-brought_in from (Some bytes) told = brought_by from (was_refused false told) (whole_at command_at bytes)
-
--- The message was read whole of some of these pieces, as `WasRead` says, but others may have been read before them. So it is where a command
--- wasn't read for want of memory: that lets go nothing of what was read.
-pub record WasBrought (m : Message) (tries : List (List ℕ × Bool)) : Type 0 where
-  pub before : List (List ℕ × Bool)
-  pub so_far : Option State
-  pub pieces : List (List ℕ)
-  pub last : List ℕ
-  pub refused : Bool
-  pub later : List (List ℕ × Bool)
-  pub are : tries ≡ before ++ (taken pieces ++ (last, refused) ∷ later)
-  pub apart : last_refused true before ≡ true
-  pub whole : all_fed (pieces ++ last ∷ []) (More so_far) ≡ Ok (Whole m)
-
--- so it is with each of the messages, which are numbered from k on
-abbrev pub WereBrought : ℕ → List Message → List (ℕ × (List ℕ × Bool)) → Type 0
-WereBrought k [] tries = ⊤
-WereBrought k (m ∷ ms) tries = WasBrought m (of_number k tries) × WereBrought (k + 1) ms tries
-
 -- ---- from one process to another
 
--- The pieces that came with a number are fed as they were told: those that came one behind another, the first of them at first or behind one
--- that was refused, are the first ones that were told with that number.
-abbrev pub AreFedAsTold : List (ℕ × List ℕ) → List (ℕ × (List ℕ × Bool)) → Type 0
-AreFedAsTold told tries = (k : ℕ) (before : List (List ℕ × Bool)) (pieces : List (List ℕ)) (last : List ℕ) (refused : Bool) (later : List (List ℕ × Bool))
-    → of_number k tries ≡ before ++ (taken pieces ++ (last, refused) ∷ later) → last_refused true before ≡ true → IsPrefix (pieces ++ last ∷ []) (of_number k told)
+-- the pieces of a message that it has, behind one more that came
+abbrev pub run_behind : List (List ℕ) → List ℕ → Option ℕ → List (List ℕ)
+run_behind run piece None = run ++ piece ∷ []
+run_behind run piece (Some code) = if code == 20 then run else []
+
+-- Pieces of a message come as they were told: each time the next one behind those that it has, or the first one where it begins again.
+abbrev pub AreNext : List (List ℕ) → List (List ℕ) → List (List ℕ × Option ℕ) → Type 0
+AreNext told run [] = ⊤
+AreNext told run (one ∷ rest) = IsPrefix (run ++ one.0 ∷ []) told × AreNext told (run_behind run one.0 one.1) rest
+
+-- So it is with each number.
+abbrev pub AreFedAsTold : List (ℕ × List ℕ) → List (ℕ × (List ℕ × Option ℕ)) → Type 0
+AreFedAsTold told tries = (k : ℕ) → AreNext (of_number k told) [] (of_number k tries)

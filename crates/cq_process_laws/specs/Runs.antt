@@ -1,5 +1,5 @@
 -- What a process did of a frame, and of frames one after another.
-use Rattle.std.specs.Prelude.{◌≡◌, ℕ, List, [], ◌∷◌, ◌++◌, flat_map, Bool, Option, None, Some, ⊤, ◌⊎◌, Ok}
+use Rattle.std.specs.Prelude.{◌≡◌, ℕ, List, [], ◌∷◌, ◌++◌, flat_map, Option, None, Some, ⊤, ◌⊎◌, Ok, Err}
 use Rattle.std.specs.List.{AllByRecursion}
 use Rattle.cq_base.specs.declared.party.Party.{Party}
 use Rattle.cq_base.specs.declared.party.Party.TheVariants as parties
@@ -19,9 +19,12 @@ use Rattle.cq_process.specs.Links.{held_by, is_gone}
 use Rattle.cq_server_process.specs.declared.process.ServerProcess.{ServerProcess}
 use Rattle.cq_server_process.specs.Answers.{State, state}
 use Rattle.cq_server_process.specs.Turns.{frames}
+use Rattle.cq_wire.specs.declared.fault.WireFault.{WireFault}
+use Rattle.cq_wire.specs.declared.fault.WireFault.TheVariants.{BadNumber}
+use Rattle.cq_wire.specs.Faults.{wire_code}
 use Rattle.cq_wire.specs.Reading.{whole_at}
 use Rattle.cq_process_laws.specs.Deeds.{Acted, AllTo, Came, Deed, IsInTurns, Lost, Missed, Read, Rested, actions_in, responses_in}
-use Rattle.cq_process_laws.specs.Passing.{ArePutAsTold, WereBrought, WereRead, brought_in, pieces_for, tries_from}
+use Rattle.cq_process_laws.specs.Passing.{ArePutAsTold, WereRead, brought_in, pieces_for}
 
 -- the core of a process, with the messages that are being written
 abbrev pub core_of : State → CoreState rust_server.Server
@@ -45,10 +48,10 @@ BeginsWith (commands.Join server) first = ⊥
 BeginsWith commands.Save first = ⊥
 BeginsWith (commands.Load chunk) first = ⊥
 
--- what comes of one that is refused
-abbrev pub IsRefusedWith : Command → List Deed → Type 0
-IsRefusedWith (commands.Take from number piece) deeds = deeds ≡ Missed from number piece ∷ []
-IsRefusedWith other deeds = deeds ≡ Rested ∷ []
+-- what comes of one that is refused by the fault of that number
+abbrev pub IsRefusedWith : Command → ℕ → List Deed → Type 0
+IsRefusedWith (commands.Take from number piece) code deeds = deeds ≡ Missed from number piece code ∷ []
+IsRefusedWith other code deeds = deeds ≡ Rested ∷ []
 
 -- what is put by a command for the party that it names
 abbrev pub PutsForNamed : Command → List Party → List Deed → Type 0
@@ -77,17 +80,21 @@ pub record IsRefusal (bytes : List ℕ) (told : List Response) (deeds : List Dee
   pub read : whole_at command_at bytes ≡ Ok command
   pub code : ℕ
   pub is : told ≡ responses.Refused code ∷ []
-  pub refused : IsRefusedWith command deeds
+  pub refused : IsRefusedWith command code deeds
 
--- Or it wasn't read, for its bytes or for want of memory: that is told, and nothing is done.
-pub record IsPassedOver (told : List Response) (deeds : List Deed) : Type 0 where
-  pub code : ℕ
-  pub is : (told ≡ responses.Refused code ∷ []) ⊎ (told ≡ responses.Unread code ∷ [])
+-- Or it wasn't read, for want of memory or for its bytes.
+abbrev pub IsUnreadAs : Option (List ℕ) → List Response → Type 0
+IsUnreadAs None told = told ≡ responses.Unread (wire_code BadNumber) ∷ []
+IsUnreadAs (Some bytes) told = (told ≡ responses.Refused 20 ∷ []) ⊎ ((fault : WireFault) × ((whole_at command_at bytes ≡ Err fault) × (told ≡ responses.Unread (wire_code fault) ∷ [])))
+
+-- That is told, and nothing is done.
+pub record IsPassedOver (frame : Option (List ℕ)) (told : List Response) (deeds : List Deed) : Type 0 where
+  pub unread : IsUnreadAs frame told
   pub nothing : deeds ≡ []
 
 abbrev pub ComesOf : List Party → Option (List ℕ) → List Response → List Deed → Type 0
-ComesOf gone None told deeds = IsPassedOver told deeds
-ComesOf gone (Some bytes) told deeds = IsCarriedOut gone bytes told deeds ⊎ (IsRefusal bytes told deeds ⊎ IsPassedOver told deeds)
+ComesOf gone None told deeds = IsPassedOver None told deeds
+ComesOf gone (Some bytes) told deeds = IsCarriedOut gone bytes told deeds ⊎ (IsRefusal bytes told deeds ⊎ IsPassedOver (Some bytes) told deeds)
 
 -- ---- what is told
 
@@ -138,7 +145,7 @@ abbrev pub told_in : List Done → List Response
 told_in done = flat_map (λ one. one.told) done
 
 -- the pieces from a party that the frames brought
-abbrev pub brought_from : Party → List (Step ServerProcess) → List Done → List (ℕ × (List ℕ × Bool))
+abbrev pub brought_from : Party → List (Step ServerProcess) → List Done → List (ℕ × (List ℕ × Option ℕ))
 brought_from from [] done = []
 brought_from from (step ∷ steps) [] = []
 brought_from from (step ∷ steps) (one ∷ rest) = brought_in from step.frame one.told ++ brought_from from steps rest
@@ -153,7 +160,5 @@ pub record IsRun (s : states.Server) (first : State) (steps : List (Step ServerP
   pub lives : ServerLives s (λ _. []) (all_actions done)
   -- what it put to a party was told as pieces
   pub out : (to : Party) → ArePutAsTold (is_gone last.links.gone.keys to) (put_to to (all_actions done)) (pieces_for to (told_in done))
-  -- what it took from a party was read of pieces that came
-  pub into : (from : Party) → WereRead 1 (taken_from from (all_actions done)) (tries_from from (deeds_in done))
-  -- and these were brought by its frames
-  pub brought : (from : Party) → WereBrought 1 (taken_from from (all_actions done)) (brought_from from steps done)
+  -- what it took from a party was read of pieces that frames brought
+  pub into : (from : Party) → WereRead 1 (taken_from from (all_actions done)) (brought_from from steps done)

@@ -14,7 +14,8 @@ pub fn runs_are_actions()
 {}
 
 /// Where one process is fed the pieces that another one told for it, it takes the messages that the other one put, in order. With each
-/// number the pieces come as they were told; behind a piece that was refused the first one of its message comes again.
+/// number the pieces come as they were told. Behind a refusal for want of memory (20) the same piece comes again, and behind any other one
+/// the first piece of its message.
 pub fn links_hand_over()
     ensures { LinksHandOver }
 {}
