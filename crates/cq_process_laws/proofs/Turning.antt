@@ -170,7 +170,10 @@ sent n a b to told stop lives (inl h) = makes-both to (with_at n a) (with_at n m
     | inl w ↦ subst (λ xs. Makes to (with_at n m) (with_at n b) xs) (sym w.1.0.is) (wrote n m b to h.others w.0 w.1.0.piece lives w.1.0.puts)
     | inr w ↦ makes-rest to (with_at n m) (with_at n b) told (stays-at n m b to w.keeps h.others (ap (λ ends. held_by ends to) w.ends) (subst (λ ends. Rests (end_of h.mid to) (end_of ends to)) (sym w.ends) (rests-same (end_of h.mid to)))) w.none
   ]
-sent n a b to told stop lives (inr h) = makes-rest to (with_at n a) (with_at n b) told (unopened-stays n a b to h.1.1) h.1.0
+sent n a b to told stop lives (inr h) = elim h.1.1 [
+  | inl unopened ↦ makes-rest to (with_at n a) (with_at n b) told (unopened-stays n a b to unopened) h.1.0
+  | inr same ↦ makes-none to (with_at n a) (with_at n b) told (ap (λ (x : At). with_at n x) (sym same)) h.1.0
+]
 
 -- ---- turns
 
