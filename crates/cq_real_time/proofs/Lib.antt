@@ -5,4 +5,6 @@ pub mod Counting
 pub mod Enabling
 pub mod Readies
 pub mod ByTheLog
+pub mod Loading
 mod Examples
+mod LoadedExamples

@@ -1,6 +1,7 @@
 //! Laws of orders in time. A function here does nothing: its contract is a law, which is proved with it.
 ghost use Rattle.cq_real_time.specs.Laws.{NothingGoesToUnknownServers};
 ghost use Rattle.cq_real_time.specs.Interleavings.{OrdersInTimeAreRuns, OrdersByTheLogAreRuns};
+ghost use Rattle.cq_real_time.specs.Loading.{NoneLoadedIsFirst, LoadedWorldsAreAlone};
 
 /// Nothing waits for a server that never joined and was no member of the first chain, and nothing stands in a link to it.
 pub fn nothing_goes_to_unknown_servers()
@@ -21,4 +22,11 @@ pub fn orders_in_time_are_runs()
 /// in time, and so a run of the world.
 pub fn orders_by_the_log_are_runs()
     ensures { OrdersByTheLogAreRuns }
+{}
+
+/// The world that begins with a list of entries is that of one server alone, at rest behind them, and with none it is the first
+/// world of one server.
+pub fn loaded_worlds_are_alone()
+    ensures empty { NoneLoadedIsFirst }
+    ensures alone { LoadedWorldsAreAlone }
 {}

@@ -1,0 +1,38 @@
+-- Worlds that begin with entries, computed by the definitions.
+use Rattle.std.proofs.Common.{◌≡◌, ℕ, List, [], ◌∷◌, codes, true, false, Some, None, refl}
+use Rattle.cq_base.specs.declared.ask.Ask.TheVariants.{Create}
+use Rattle.cq_base.specs.declared.ask.Entry.{Entry}
+use Rattle.cq_base.specs.declared.party.Party.TheVariants.{Master, Clients, Server}
+use Rattle.cq_base.specs.queue.History.{last_moment}
+use Rattle.cq_chain.specs.Masters.{first_master}
+use Rattle.cq_chain.specs.Refusals.{refusal_of_arrival}
+use Rattle.cq_chain.specs.Servers.{joining}
+use Rattle.cq_chain.specs.Steps.{arrived}
+use Rattle.cq_events.specs.Events.{refusal_of, next, after}
+use Rattle.cq_events.specs.Runs.{world_after}
+use Rattle.cq_events.specs.Worlds.{first_world, numbers_from}
+use Rattle.cq_events.specs.declared.event.Event.TheVariants as events
+use Rattle.cq_real_time.specs.Loading.{loaded}
+use Rattle.cq_real_time.proofs.Loading.{loaded_none}
+
+-- a client's request to create a queue, and the same again: a repeat is an entry, too
+abbrev created : ℕ → Entry
+created moment = record { moment = moment; request = record { client = 1; number = 1; ask = Create (codes "q.fifo") 30 false } }
+
+abbrev two : List Entry
+two = created 5 ∷ created 7 ∷ []
+
+-- no entries: the first world
+none_loaded : loaded [] ≡ first_world 1
+none_loaded = loaded_none
+
+-- two entries: what server 1 has, and what no other has
+two_loaded : ((loaded two).server 1 ≡ record { entries = two; acked = 2; floor = 2; pred = None; succ = None; head = true; at_least = Some 0; full = true; down = false }) × ((loaded two).server 2 ≡ joining)
+    × ((loaded two).outbox (Server 1) Clients ≡ []) × ((loaded two).link (Server 1) Master ≡ []) × ((loaded two).master ≡ first_master 1)
+unfolding loaded
+two_loaded = (refl, refl, refl, refl, refl)
+
+-- Server 1 takes on from there: the next request is its third entry.
+goes_on : ((world_after (loaded two) (events.Arrive 1 9 (created 9).request ∷ [])).server 1).entries ≡ created 5 ∷ created 7 ∷ created 9 ∷ []
+unfolding loaded world_after after next refusal_of numbers_from refusal_of_arrival arrived last_moment
+goes_on = refl
