@@ -6,13 +6,13 @@ use Rattle.cq_base.specs.declared.party.Party.TheVariants.{Master, Clients, Serv
 use Rattle.cq_base.specs.queue.History.{last_moment}
 use Rattle.cq_chain.specs.Masters.{first_master}
 use Rattle.cq_chain.specs.Refusals.{refusal_of_arrival}
-use Rattle.cq_chain.specs.Servers.{joining}
+use Rattle.cq_chain.specs.Servers.{alone, joining}
 use Rattle.cq_chain.specs.Steps.{arrived}
 use Rattle.cq_events.specs.Events.{refusal_of, next, after}
-use Rattle.cq_events.specs.Runs.{world_after}
+use Rattle.cq_events.specs.Runs.{world_after, refused_from}
 use Rattle.cq_events.specs.Worlds.{first_world, numbers_from}
 use Rattle.cq_events.specs.declared.event.Event.TheVariants as events
-use Rattle.cq_real_time.specs.Loading.{loaded}
+use Rattle.cq_real_time.specs.Loading.{loaded, arrivals_of}
 use Rattle.cq_real_time.proofs.Loading.{loaded_none}
 
 -- a client's request to create a queue, and the same again: a repeat is an entry, too
@@ -31,6 +31,20 @@ two_loaded : ((loaded two).server 1 ≡ record { entries = two; acked = 2; floor
     × ((loaded two).outbox (Server 1) Clients ≡ []) × ((loaded two).link (Server 1) Master ≡ []) × ((loaded two).master ≡ first_master 1)
 unfolding loaded
 two_loaded = (refl, refl, refl, refl, refl)
+
+-- the events by which it is reached
+two_arrive : arrivals_of two ≡ events.Arrive 1 5 (created 5).request ∷ events.Put (Server 1) Clients ∷ events.Arrive 1 7 (created 7).request ∷ events.Put (Server 1) Clients ∷ []
+two_arrive = refl
+
+-- None of them is refused, and what server 1 has behind them.
+two_reached : (refused_from 1 (first_world 1) (arrivals_of two) ≡ []) × ((world_after (first_world 1) (arrivals_of two)).server 1 ≡ alone two)
+unfolding refused_from world_after after next refusal_of first_world numbers_from refusal_of_arrival arrived last_moment
+two_reached = (refl, refl)
+
+-- Where moments fall these events lead elsewhere: the second entry gets the moment of the first.
+falling_moments : ((world_after (first_world 1) (arrivals_of (created 7 ∷ created 5 ∷ []))).server 1).entries ≡ created 7 ∷ created 7 ∷ []
+unfolding world_after after next refusal_of first_world numbers_from refusal_of_arrival arrived last_moment
+falling_moments = refl
 
 -- Server 1 takes on from there: the next request is its third entry.
 goes_on : ((world_after (loaded two) (events.Arrive 1 9 (created 9).request ∷ [])).server 1).entries ≡ created 5 ∷ created 7 ∷ created 9 ∷ []

@@ -1,7 +1,7 @@
 //! Laws of orders in time. A function here does nothing: its contract is a law, which is proved with it.
 ghost use Rattle.cq_real_time.specs.Laws.{NothingGoesToUnknownServers};
 ghost use Rattle.cq_real_time.specs.Interleavings.{OrdersInTimeAreRuns, OrdersByTheLogAreRuns};
-ghost use Rattle.cq_real_time.specs.Loading.{NoneLoadedIsFirst, LoadedWorldsAreAlone};
+ghost use Rattle.cq_real_time.specs.Loading.{NoneLoadedIsFirst, LoadedWorldsAreAlone, LoadedWorldsAreReached};
 
 /// Nothing waits for a server that never joined and was no member of the first chain, and nothing stands in a link to it.
 pub fn nothing_goes_to_unknown_servers()
@@ -29,4 +29,10 @@ pub fn orders_by_the_log_are_runs()
 pub fn loaded_worlds_are_alone()
     ensures empty { NoneLoadedIsFirst }
     ensures alone { LoadedWorldsAreAlone }
+{}
+
+/// Where moments never fall, and the list is at most 2^62 long, a chain of one reaches that world from nothing: the requests
+/// arrive one after another, each while the clock shows the moment of its entry, and each answer is put to the clients.
+pub fn loaded_worlds_are_reached()
+    ensures { LoadedWorldsAreReached }
 {}
