@@ -1,5 +1,5 @@
 -- In an order by the log another server is full and lives where one crashes.
-use Rattle.std.proofs.Common.{◌≡◌, ℕ, ◌≤◌, ◌∙◌, ap, sym, refl, subst, cond, List, [], ◌∷◌, ◌++◌, map, append_assoc, append-nil, Bool, true, false, ◌&&◌, ◌||◌, not, eqb, ◌⊎◌, inl, inr, None}
+use Rattle.std.proofs.Common.{◌≡◌, ℕ, ◌∙◌, ap, sym, refl, subst, cond, List, [], ◌∷◌, ◌++◌, map, append_assoc, append-nil, Bool, true, false, ◌&&◌, ◌||◌, not, eqb, ◌⊎◌, inl, inr, None}
 use Rattle.std.specs.List.{list_any}
 use Rattle.std.proofs.lemmas.Bool.{eqb-true, eq-eqb, false≢true, both_ways, and_from, and_parts, or_cases, or_left, or_right}
 use Rattle.cq_base.proofs.Among.{among-append, among-right}
@@ -8,7 +8,7 @@ use Rattle.cq_base.specs.declared.party.Party.TheVariants as parties
 use Rattle.cq_base.specs.Relations.{Among}
 use Rattle.cq_chain.specs.declared.message.Message as rust
 use Rattle.cq_chain.specs.declared.message.Message.TheVariants as stored
-use Rattle.cq_chain.specs.Masters.{Master, is_in, is_last, numbers_from, first_master, without, dropped, closed_up, detected, hears, hears_from}
+use Rattle.cq_chain.specs.Masters.{Master, is_in, is_last, without, dropped, closed_up, detected, hears, hears_from}
 use Rattle.cq_chain.specs.Messages.{Message, Ready}
 use Rattle.cq_chain.specs.Parties.{same, is_that}
 use Rattle.cq_chain.specs.Stands.{Means}
@@ -27,17 +27,15 @@ use Rattle.cq_world.specs.Laws.{IsOut, IsOutOf}
 use Rattle.cq_world.proofs.Chains.{chain-used}
 use Rattle.cq_world.proofs.Eaches.{Each}
 use Rattle.cq_world.proofs.ExtendedChains.{joiner-out, Apart}
-use Rattle.cq_world.proofs.First.{at_first_full}
-use Rattle.cq_world.proofs.OfLaws.Dropped.{dropped_stay_out}
 use Rattle.cq_world.proofs.OfSim.RunSteps.{after-done, world-more}
 use Rattle.cq_world.proofs.Prefixes.{Prefixes}
-use Rattle.cq_world.proofs.Running.{first-good, runs-good}
 use Rattle.cq_world.proofs.Unrefused.{known-parts}
 use Rattle.cq_world.proofs.Views.{view, extended}
-use Rattle.cq_real_time.specs.Interleavings.{heard, learned, knows, is_ready, takes_ready, full_by_log, IsInTime, IsByTheLog, OrdersByTheLogAreRuns}
+use Rattle.cq_real_time.specs.Interleavings.{heard, learned, knows, is_ready, takes_ready, full_by_log, IsStart, IsInTimeFrom, IsByTheLogFrom, LogOrdersFromStartsAreRuns, OrdersByTheLogAreRuns}
 use Rattle.cq_real_time.proofs.Acting.{Finds}
-use Rattle.cq_real_time.proofs.Enabling.{IsTimely, Now, ready, after_link, later, left_each, first_now, among_split, orders_in_time_are_runs}
-use Rattle.cq_real_time.proofs.Readies.{IsTrueOf, Says, next_says, first_says, full_next}
+use Rattle.cq_real_time.proofs.Enabling.{IsTimely, Now, ready, after_link, later, left_each, first_now, among_split, orders_from_starts_are_runs}
+use Rattle.cq_real_time.proofs.Readies.{IsTrueOf, Says, next_says, full_next}
+use Rattle.cq_real_time.proofs.Starts.{start_good, start_says, start_out, first_worlds_are_starts}
 
 -- ---- lists
 
@@ -198,24 +196,24 @@ detected_out w id apart free = go (is_that w.master.joiner id) refl where
   go false is = (known, without_out id w.master.chain, no_joiner (is_last w.master.chain id) is)
 
 -- What the log tells where these events have happened.
-record Tells (size : ℕ) (before : List Event) (log : List Action) (w : World) : Type 0 where
-  knows_all : w.master ≡ knows (first_master size) log
-  first : (id : ℕ) → is_in (numbers_from 1 size) id ≡ true → (w.server id).full ≡ true
+record Tells (start : World) (before : List Event) (log : List Action) (w : World) : Type 0 where
+  knows_all : w.master ≡ knows start.master log
+  first : (id : ℕ) → (start.server id).full ≡ true → (w.server id).full ≡ true
   spoke : (id : ℕ) → list_any (takes_ready id) log ≡ true → (w.server id).full ≡ true
   says : Says (view w)
   gone : (id : ℕ) → Among (events.Detect id) before → IsOut w id
 
 -- one event more
-tells_next : (size : ℕ) (before : List Event) (event : Event) (log : List Action) (p : Party) (d : Action) → 1 ≤ size → event ≡ event_of p d → party_of event ≡ p
-    → refusal_of (world_after (first_world size) before) event ≡ None → Finds (world_after (first_world size) before) p d
-    → Tells size before log (world_after (first_world size) before) → Tells size (before ++ event ∷ []) (logged log p d) (world_after (first_world size) (before ++ event ∷ []))
-tells_next size before event log p d some is own free finds t = record {
-  knows_all = ap (λ (v : World). v.master) (world_is ∙ ap (next w) is) ∙ master_next w p d (ap party_of (sym is) ∙ own) finds ∙ ap (λ (m : Master). learned_by p m d) t.knows_all ∙ sym (knows_logged (first_master size) log p d);
+tells_next : (start : World) (before : List Event) (event : Event) (log : List Action) (p : Party) (d : Action) → IsStart start → event ≡ event_of p d → party_of event ≡ p
+    → refusal_of (world_after start before) event ≡ None → Finds (world_after start before) p d
+    → Tells start before log (world_after start before) → Tells start (before ++ event ∷ []) (logged log p d) (world_after start (before ++ event ∷ []))
+tells_next start before event log p d s is own free finds t = record {
+  knows_all = ap (λ (v : World). v.master) (world_is ∙ ap (next w) is) ∙ master_next w p d (ap party_of (sym is) ∙ own) finds ∙ ap (λ (m : Master). learned_by p m d) t.knows_all ∙ sym (knows_logged start.master log p d);
   first = λ id h. subst (λ (v : World). (v.server id).full ≡ true) (sym world_is) (full_next w event id (t.first id h));
   spoke = λ id h. subst (λ (v : World). (v.server id).full ≡ true) (sym world_is) (full_next w event id (ready_logged w log p d id finds t.says (t.spoke id) h));
   says = subst (λ (v : World). Says (view v)) (sym world_is) (next_says w event t.says);
   gone = λ id h. elim (among-append (events.Detect id) before (event ∷ []) h) [
-    | inl old ↦ (dropped_stay_out size before (event ∷ []) id some (t.gone id old)).0
+    | inl old ↦ start_out start s before (event ∷ []) id (t.gone id old)
     | inr new ↦ elim new [
       | inl e ↦ subst (λ (v : World). IsOut v id) (sym world_is) (subst (λ (z : Event). IsOut (next w z) id) e (detected_out w id good.apart (subst (λ (z : Event). refusal_of w z ≡ None) (sym e) free)))
       | inr none ↦ absurd none
@@ -223,21 +221,20 @@ tells_next size before event log p d some is own free finds t = record {
   ];
 } where
   w : World
-  w = world_after (first_world size) before
+  w = world_after start before
 
-  world_is : world_after (first_world size) (before ++ event ∷ []) ≡ next (world_after (first_world size) before) event
-  world_is = world-more (first_world size) before event ∙ after-done (world_after (first_world size) before) event free
+  world_is : world_after start (before ++ event ∷ []) ≡ next (world_after start before) event
+  world_is = world-more start before event ∙ after-done (world_after start before) event free
 
-  good : Prefixes (view (world_after (first_world size) before))
-  good = (runs-good before (first_world size) [] (first-good size some)).prefixes
+  good : Prefixes (view (world_after start before))
+  good = start_good start s before
 
-first_tells : (size : ℕ) → Tells size [] [] (first_world size)
-unfolding first_world
-first_tells size = record {
+first_tells : (start : World) → IsStart start → Tells start [] [] start
+first_tells start s = record {
   knows_all = refl;
-  first = λ id h. at_first_full (is_in (numbers_from 1 size) id) size id h;
+  first = λ id h. h;
   spoke = λ id none. absurd (false≢true none);
-  says = first_says size;
+  says = start_says start s;
   gone = λ id none. absurd none;
 }
 
@@ -262,16 +259,16 @@ detection id (Crashed count) h = absurd (false≢true (sym (ap is_detection h)))
 detection id (Joined other) h = absurd (false≢true (sym (ap is_detection h)))
 
 -- What holds at a moment of an order.
-record At (size : ℕ) (all : Party → List Action) (before rest : List Event) : Type 0 where
+record At (start : World) (all : Party → List Action) (before rest : List Event) : Type 0 where
   actions : Party → List Action
   link : Party → Party → List rust.Message
   log : List Action
   each : (q : Party) → of_party q rest ≡ map (event_of q) (actions q)
-  now : Now size before (world_after (first_world size) before) actions link
-  tells : Tells size before log (world_after (first_world size) before)
+  now : Now start before (world_after start before) actions link
+  tells : Tells start before log (world_after start before)
   parts : all parties.Master ≡ log ++ actions parties.Master
 
-module _ (size : ℕ) (all : Party → List Action) (order : List Event) (some : 1 ≤ size) (t : IsByTheLog size all order) where
+module _ (start : World) (all : Party → List Action) (order : List Event) (s : IsStart start) (t : IsByTheLogFrom start all order) where
   -- nothing of a server comes behind its crash
   silent_behind : (id : ℕ) (before rest : List Event) (event : Event) → order ≡ before ++ (events.Crash id ∷ rest) → Among event rest → same (parties.Server id) (party_of event) ≡ false
   silent_behind id before rest event split h =
@@ -282,12 +279,12 @@ module _ (size : ℕ) (all : Party → List Action) (order : List Event) (some :
         | inr behind ↦ t.silence id (before ++ events.Crash id ∷ []) next_is.0 event on behind
       ]
 
-  timely : IsTimely size all order
+  timely : IsTimely start all order
   timely = record { each = t.each; acted = t.acted; links = t.links; causes = t.causes; detections = t.detections; silence = silent_behind; joins = t.joins }
 
   -- a member has not crashed, unless its detection is next
-  member_lives : (id other : ℕ) (before rest : List Event) (at : At size all before (events.Crash id ∷ rest)) → order ≡ before ++ (events.Crash id ∷ rest) → is_in (world_after (first_world size) before).master.chain other ≡ true → ((world_after (first_world size) before).server other).down ≡ false
-  member_lives id other before rest at split member = go ((world_after (first_world size) before).server other).down refl where
+  member_lives : (id other : ℕ) (before rest : List Event) (at : At start all before (events.Crash id ∷ rest)) → order ≡ before ++ (events.Crash id ∷ rest) → is_in (world_after start before).master.chain other ≡ true → ((world_after start before).server other).down ≡ false
+  member_lives id other before rest at split member = go ((world_after start before).server other).down refl where
     detected_then : (a b : List Event) → before ≡ a ++ (events.Crash other ∷ b) → (later : List Event) × (b ++ (events.Crash id ∷ rest) ≡ events.Detect other ∷ later) → Among (events.Detect other) before
     detected_then a [] is next_is =
         let here : events.Crash id ∷ rest ≡ events.Detect other ∷ next_is.0 = next_is.1 in
@@ -296,16 +293,16 @@ module _ (size : ℕ) (all : Party → List Action) (order : List Event) (some :
         let here : e ∷ (b ++ (events.Crash id ∷ rest)) ≡ events.Detect other ∷ next_is.0 = next_is.1 in
         subst (Among (events.Detect other)) (sym is) (among-right (events.Detect other) a (events.Crash other ∷ (e ∷ b)) (inr (inl (sym (heads_same here)))))
 
-    go : (t : Bool) → ((world_after (first_world size) before).server other).down ≡ t → t ≡ false
+    go : (t : Bool) → ((world_after start before).server other).down ≡ t → t ≡ false
     go false down = refl
     go true down =
         let fell = among_split (events.Crash other) before (at.now.crashed other down) in
         let on = split ∙ ap (λ us. us ++ (events.Crash id ∷ rest)) fell.2 ∙ append_assoc fell.0 (events.Crash other ∷ fell.1) (events.Crash id ∷ rest) in
         let out = at.tells.gone other (detected_then fell.0 fell.1 fell.2 (t.crashes other fell.0 (fell.1 ++ (events.Crash id ∷ rest)) on)) in
-        absurd (both_ways (is_in (world_after (first_world size) before).master.chain other) out.1 member)
+        absurd (both_ways (is_in (world_after start before).master.chain other) out.1 member)
 
   -- what the master does next
-  detects_next : (id : ℕ) (before rest : List Event) (at : At size all before (events.Crash id ∷ rest)) → order ≡ before ++ (events.Crash id ∷ rest) → (ds : List Action) × (all parties.Master ≡ at.log ++ (Detected id ∷ ds))
+  detects_next : (id : ℕ) (before rest : List Event) (at : At start all before (events.Crash id ∷ rest)) → order ≡ before ++ (events.Crash id ∷ rest) → (ds : List Action) × (all parties.Master ≡ at.log ++ (Detected id ∷ ds))
   detects_next id before rest at split =
       let next_is = t.crashes id before rest split in
       let own : events.Detect id ∷ of_party parties.Master next_is.0 ≡ map (event_of parties.Master) (at.actions parties.Master) = sym (ap (of_party parties.Master) next_is.1) ∙ at.each parties.Master in
@@ -313,19 +310,19 @@ module _ (size : ℕ) (all : Party → List Action) (order : List Event) (some :
       (first.1, at.parts ∙ ap (λ (us : List Action). at.log ++ us) (first.2 ∙ ap (λ (d : Action). d ∷ first.1) (detection id first.0 first.3)))
 
   -- Where a server crashes, another one is full and lives.
-  survives_at : (id : ℕ) (before rest : List Event) → At size all before (events.Crash id ∷ rest) → order ≡ before ++ (events.Crash id ∷ rest) → another_full (world_after (first_world size) before) id ≡ true
+  survives_at : (id : ℕ) (before rest : List Event) → At start all before (events.Crash id ∷ rest) → order ≡ before ++ (events.Crash id ∷ rest) → another_full (world_after start before) id ≡ true
   survives_at id before rest at split =
-      let w = world_after (first_world size) before in
+      let w = world_after start before in
       let detects = detects_next id before rest at split in
-      let found = find_another (full_by_log size at.log) id (knows (first_master size) at.log).chain (t.others id at.log detects.0 detects.1) in
+      let found = find_another (full_by_log start at.log) id (knows start.master at.log).chain (t.others id at.log detects.0 detects.1) in
       let member : is_in w.master.chain found.0 ≡ true = ap (λ (m : Master). is_in m.chain found.0) at.tells.knows_all ∙ found.1 in
-      let good : Prefixes (view w) = (runs-good before (first_world size) [] (first-good size some)).prefixes in
-      let full : (w.server found.0).full ≡ true = elim (or_cases (is_in (numbers_from 1 size) found.0) (list_any (takes_ready found.0) at.log) found.3) [ inl first ↦ at.tells.first found.0 first | inr said ↦ at.tells.spoke found.0 said ] in
+      let good : Prefixes (view w) = start_good start s before in
+      let full : (w.server found.0).full ≡ true = elim (or_cases (start.server found.0).full (list_any (takes_ready found.0) at.log) found.3) [ inl first ↦ at.tells.first found.0 first | inr said ↦ at.tells.spoke found.0 said ] in
       any_found (λ other. not (eqb other id) && (w.server other).full && not (w.server other).down) w.master.used found.0 (chain-used (view w) found.0 good member)
       (and_from (not (eqb found.0 id) && (w.server found.0).full) (not (w.server found.0).down) (and_from (not (eqb found.0 id)) (w.server found.0).full (ap not found.2) full) (ap not (member_lives id found.0 before rest at split member)))
 
-  survives_here : (before : List Event) (event : Event) (rest : List Event) → order ≡ before ++ (event ∷ rest) → At size all before (event ∷ rest) → (id : ℕ) → event ≡ events.Crash id → another_full (world_after (first_world size) before) id ≡ true
-  survives_here before event rest split at id is = survives_at id before rest (subst (λ e. At size all before (e ∷ rest)) is at) (split ∙ ap (λ e. before ++ (e ∷ rest)) is)
+  survives_here : (before : List Event) (event : Event) (rest : List Event) → order ≡ before ++ (event ∷ rest) → At start all before (event ∷ rest) → (id : ℕ) → event ≡ events.Crash id → another_full (world_after start before) id ≡ true
+  survives_here before event rest split at id is = survives_at id before rest (subst (λ e. At start all before (e ∷ rest)) is at) (split ∙ ap (λ e. before ++ (e ∷ rest)) is)
 
   -- what the master did, and has still to do
   parts_next : (actions : Party → List Action) (log : List Action) (p : Party) (d : Action) (ds : List Action) → actions p ≡ d ∷ ds → all parties.Master ≡ log ++ actions parties.Master → all parties.Master ≡ logged log p d ++ left actions p ds parties.Master
@@ -334,46 +331,49 @@ module _ (size : ℕ) (all : Party → List Action) (order : List Event) (some :
   parts_next actions log parties.Clients d ds is parts = parts
 
   -- one moment later
-  at_next : (before : List Event) (event : Event) (rest : List Event) → order ≡ before ++ (event ∷ rest) → At size all before (event ∷ rest) → At size all (before ++ event ∷ []) rest
+  at_next : (before : List Event) (event : Event) (rest : List Event) → order ≡ before ++ (event ∷ rest) → At start all before (event ∷ rest) → At start all (before ++ event ∷ []) rest
   at_next before event rest split at =
       let p = party_of event in
       let first = first_action (event_of p) (at.actions p) event (of_party p rest) (sym (own_events p event rest refl) ∙ at.each p) in
       let survives = survives_here before event rest split at in
-      let r = ready size all order some timely before event rest split at.actions at.link at.now survives p first.0 first.1 first.3 refl first.2 in
+      let r = ready start all order s timely before event rest split at.actions at.link at.now survives p first.0 first.1 first.3 refl first.2 in
       record {
         actions = left at.actions p first.1;
-        link = after_link size all order some timely before event rest split at.actions at.link at.now survives p first.0 first.1 first.3 first.2 r;
+        link = after_link start all order s timely before event rest split at.actions at.link at.now survives p first.0 first.1 first.3 first.2 r;
         log = logged at.log p first.0;
         each = left_each at.actions event rest first.1 at.each first.4;
-        now = later size all order some timely before event rest split at.actions at.link at.now survives p first.0 first.1 first.3 first.2 r;
-        tells = tells_next size before event at.log p first.0 some first.3 refl (subst (λ e. refusal_of (world_after (first_world size) before) e ≡ None) (sym first.3) r.free) r.finds at.tells;
+        now = later start all order s timely before event rest split at.actions at.link at.now survives p first.0 first.1 first.3 first.2 r;
+        tells = tells_next start before event at.log p first.0 s first.3 refl (subst (λ e. refusal_of (world_after start before) e ≡ None) (sym first.3) r.free) r.finds at.tells;
         parts = parts_next at.actions at.log p first.0 first.1 first.2 at.parts;
       }
 
   -- and some events later
-  at_later : (more before rest : List Event) → order ≡ before ++ (more ++ rest) → At size all before (more ++ rest) → At size all (before ++ more) rest
-  at_later [] before rest split at = subst (λ us. At size all us rest) (sym (append-nil before)) at
-  at_later (event ∷ more) before rest split at = subst (λ us. At size all us rest) (append_assoc before (event ∷ []) more)
+  at_later : (more before rest : List Event) → order ≡ before ++ (more ++ rest) → At start all before (more ++ rest) → At start all (before ++ more) rest
+  at_later [] before rest split at = subst (λ us. At start all us rest) (sym (append-nil before)) at
+  at_later (event ∷ more) before rest split at = subst (λ us. At start all us rest) (append_assoc before (event ∷ []) more)
       (at_later more (before ++ event ∷ []) rest (split ∙ sym (append_assoc before (event ∷ []) (more ++ rest))) (at_next before event (more ++ rest) split at))
 
-  at_first : At size all [] order
+  at_first : At start all [] order
   unfolding world_after
   at_first = record {
     actions = all;
     link = λ x y. [];
     log = [];
     each = t.each;
-    now = first_now size all order timely;
-    tells = first_tells size;
+    now = first_now start all order s timely;
+    tells = first_tells start s;
     parts = refl;
   }
 
   -- Another one is full and lives wherever one crashes.
-  survivors : (id : ℕ) (before rest : List Event) → order ≡ before ++ (events.Crash id ∷ rest) → another_full (world_after (first_world size) before) id ≡ true
-  survivors id before rest split = survives_at id before rest (at_later before [] (events.Crash id ∷ rest) split (subst (λ us. At size all [] us) split at_first)) split
+  survivors : (id : ℕ) (before rest : List Event) → order ≡ before ++ (events.Crash id ∷ rest) → another_full (world_after start before) id ≡ true
+  survivors id before rest split = survives_at id before rest (at_later before [] (events.Crash id ∷ rest) split (subst (λ us. At start all [] us) split at_first)) split
 
-  in_time : IsInTime size all order
+  in_time : IsInTimeFrom start all order
   in_time = record { each = t.each; acted = t.acted; links = t.links; causes = t.causes; detections = t.detections; silence = silent_behind; survivors = survivors; joins = t.joins }
 
+pub log_orders_from_starts_are_runs : LogOrdersFromStartsAreRuns
+log_orders_from_starts_are_runs start all order s t = let now = in_time start all order s t in (now, orders_from_starts_are_runs start all order s now)
+
 pub orders_by_the_log_are_runs : OrdersByTheLogAreRuns
-orders_by_the_log_are_runs size all order some t = let now = in_time size all order some t in (now, orders_in_time_are_runs size all order some now)
+orders_by_the_log_are_runs size all order some t = log_orders_from_starts_are_runs (first_world size) all order (first_worlds_are_starts size some).0 t

@@ -1,44 +1,42 @@
 -- In an order in time each event is enabled.
-use Rattle.std.proofs.Common.{◌≡◌, ◌<◌, ◌≤◌, ℕ, zero, suc, ◌+◌, arith, ◌∙◌, ap, sym, refl, subst, cond, List, [], ◌∷◌, ◌++◌, length, map, append_assoc, append-nil, drop, Bool, true, false, ◌&&◌, not, eqb, ◌⊎◌, ⊎_elim, inl, inr, Option, Some, None}
-use Rattle.std.proofs.lemmas.Bool.{eqb-true, eq-eqb, false≢true, both_ways, and_parts}
+use Rattle.std.proofs.Common.{◌≡◌, ◌<◌, ℕ, ◌+◌, arith, ◌∙◌, ap, sym, refl, subst, cond, List, [], ◌∷◌, ◌++◌, length, map, append_assoc, Bool, true, false, ◌&&◌, eqb, ◌⊎◌, inl, inr, Some, None}
+use Rattle.std.proofs.lemmas.Bool.{eqb-true, eq-eqb, false≢true, both_ways}
 use Rattle.cq_base.proofs.Among.{among-append, among-left, among-right}
 use Rattle.cq_base.specs.declared.party.Party.{Party}
 use Rattle.cq_base.specs.declared.party.Party.TheVariants as parties
 use Rattle.cq_base.specs.Relations.{Among, IsPrefix}
-use Rattle.cq_chain.specs.declared.fault.WorldFault.{WorldFault}
 use Rattle.cq_chain.specs.declared.fault.WorldFault.TheVariants.{LastFull}
+use Rattle.cq_chain.specs.declared.message.Answer.{Answer}
 use Rattle.cq_chain.specs.declared.message.Message as rust
-use Rattle.cq_chain.specs.Masters.{numbers_from}
+use Rattle.cq_chain.specs.declared.message.Message.TheVariants as stored
 use Rattle.cq_chain.specs.Messages.{Message}
 use Rattle.cq_chain.specs.Parties.{same}
-use Rattle.cq_chain.specs.Refusals.{refusal_of_taking}
-use Rattle.cq_chain.specs.Servers.{first_member, joining}
 use Rattle.cq_chain.specs.Stands.{Means, AllMean, IsFirst}
-use Rattle.cq_events.proofs.Numbers.{in-numbers}
 use Rattle.cq_events.proofs.Parties.{same-true, same-refl}
 use Rattle.cq_events.specs.Actions.{Action, Arrived, Asked, Put, Took, Crashed, Detected, Joined, event_of, put_to, taken_from}
-use Rattle.cq_events.specs.Events.{refusal_of, refusal_of_put, refusal_of_take, refusal_of_crash, refusal_of_detect, refusal_at, another_full, after, next, has_party, is_down}
-use Rattle.cq_events.specs.Orders.{of_party, AreEnabled}
+use Rattle.cq_events.specs.Events.{refusal_of, refusal_of_put, refusal_of_take, refusal_at, another_full, next, has_party, is_down}
+use Rattle.cq_events.specs.Orders.{of_party, AreEnabled, put_by}
 use Rattle.cq_events.specs.Owners.{party_of}
-use Rattle.cq_events.specs.Runs.{world_after, longest_at, longest_from}
+use Rattle.cq_events.specs.Runs.{world_after, given_from}
 use Rattle.cq_events.specs.Worlds.{World, first_world, is_in, channel}
 use Rattle.cq_events.specs.declared.event.Event.{Event}
 use Rattle.cq_events.specs.declared.event.Event.TheVariants as events
 use Rattle.cq_trace.proofs.OfLaws.ActionLists.{left, first_action}
 use Rattle.cq_trace.proofs.OfLaws.Casts.{Cast}
 use Rattle.cq_trace.proofs.OfLaws.LinkLaws.{same_first}
-use Rattle.cq_trace.proofs.OfLaws.Moments.{own_events}
+use Rattle.cq_trace.proofs.OfLaws.GivenAnswers.{among_right, all_heard}
+use Rattle.cq_trace.proofs.OfLaws.Moments.{own_events, agree}
 use Rattle.cq_trace.proofs.OfLaws.NextActions.{next_action}
 use Rattle.cq_world.proofs.Eaches.{cons_nil}
+use Rattle.cq_world.proofs.OfLaws.Headlines.{given_of_one_object}
 use Rattle.cq_world.proofs.OfSim.Refused.{at-living, refused-arrive, refused-ask, refused-crash, refused-join, detect-known, detect-dead, put-known, take-known}
 use Rattle.cq_world.proofs.OfSim.RunSteps.{after-done, world-more}
 use Rattle.cq_world.proofs.Prefixes.{Prefixes}
-use Rattle.cq_world.proofs.Running.{first-good, runs-good}
 use Rattle.cq_world.proofs.Views.{view}
-use Rattle.cq_real_time.specs.Interleavings.{Acted, put_once, taken_once, puts_on, takes_on, IsInTime, OrdersInTimeAreRuns}
+use Rattle.cq_real_time.specs.Interleavings.{Acted, puts_on, takes_on, IsStart, IsInTimeFrom, OrdersFromStartsAreRuns, AnswersFromStartsAreOfOneObject, OrdersInTimeAreRuns}
 use Rattle.cq_real_time.proofs.Acting.{acted_lived, acted_next, server_acts, master_acts, Standing, Finds}
 use Rattle.cq_real_time.proofs.Counting.{Moves, puts_more, takes_more, link_next, fallen, down_next, used_next, join_used}
-use Rattle.cq_real_time.proofs.Ordering.{nothing_unknown, to_unknown}
+use Rattle.cq_real_time.proofs.Starts.{start_good, start_unknown, first_worlds_are_starts}
 
 -- ---- lists
 
@@ -92,24 +90,24 @@ put_found from to (events.Join id ∷ es) h = put_behind from to (events.Join id
 -- ---- at one moment
 
 -- An order in time, but for what is asked where a server crashes.
-pub record IsTimely (size : ℕ) (actions : Party → List Action) (order : List Event) : Type 0 where
+pub record IsTimely (start : World) (actions : Party → List Action) (order : List Event) : Type 0 where
   pub each : (p : Party) → of_party p order ≡ map (event_of p) (actions p)
-  pub acted : (p : Party) → Acted (first_world size) p (actions p)
+  pub acted : (p : Party) → Acted start p (actions p)
   pub links : (from to : Party) → IsPrefix (taken_from from (actions to)) (put_to to (actions from))
   pub causes : (from to : Party) (before rest : List Event) → order ≡ before ++ (events.Take from to ∷ rest) → takes_on from to before < puts_on from to before
   pub detections : (id : ℕ) (before rest : List Event) → order ≡ before ++ (events.Detect id ∷ rest) → Among (events.Crash id) before
   pub silence : (id : ℕ) (before rest : List Event) (event : Event) → order ≡ before ++ (events.Crash id ∷ rest) → Among event rest → same (parties.Server id) (party_of event) ≡ false
   pub joins : (id : ℕ) (before rest : List Event) (event : Event) → order ≡ before ++ (event ∷ rest) → same (parties.Server id) (party_of event) ≡ true
-      → (is_in (numbers_from 1 size) id ≡ true) ⊎ Among (events.Join id) before
+      → (is_in start.master.used id ≡ true) ⊎ Among (events.Join id) before
 
 -- What holds where these events have happened.
-pub record Now (size : ℕ) (before : List Event) (w : World) (actions : Party → List Action) (link : Party → Party → List rust.Message) : Type 0 where
+pub record Now (start : World) (before : List Event) (w : World) (actions : Party → List Action) (link : Party → Party → List rust.Message) : Type 0 where
   pub cast : Cast w actions link
   pub acted : (q : Party) → Acted w q (actions q)
   pub counts : (x y : Party) → same parties.Clients y ≡ false → length (w.link x y) + takes_on x y before ≡ puts_on x y before
   pub fell : (id : ℕ) → Among (events.Crash id) before → (w.server id).down ≡ true
   pub crashed : (id : ℕ) → (w.server id).down ≡ true → Among (events.Crash id) before
-  pub used : (id : ℕ) → (is_in (numbers_from 1 size) id ≡ true) ⊎ Among (events.Join id) before → is_in w.master.used id ≡ true
+  pub used : (id : ℕ) → (is_in start.master.used id ≡ true) ⊎ Among (events.Join id) before → is_in w.master.used id ≡ true
 
 -- The next event isn't refused, finds what it takes, and moves what it puts or takes.
 pub record Ready (w : World) (p : Party) (d : Action) : Type 0 where
@@ -117,12 +115,12 @@ pub record Ready (w : World) (p : Party) (d : Action) : Type 0 where
   pub finds : Finds w p d
   pub moves : Moves w (event_of p d)
 
-module _ (size : ℕ) (all : Party → List Action) (order : List Event) (some : 1 ≤ size) (t : IsTimely size all order)
+module _ (start : World) (all : Party → List Action) (order : List Event) (s : IsStart start) (t : IsTimely start all order)
     (before : List Event) (event : Event) (rest : List Event) (split : order ≡ before ++ (event ∷ rest))
-    (actions : Party → List Action) (link : Party → Party → List rust.Message) (now : Now size before (world_after (first_world size) before) actions link)
-    (survives : (id : ℕ) → event ≡ events.Crash id → another_full (world_after (first_world size) before) id ≡ true) where
+    (actions : Party → List Action) (link : Party → Party → List rust.Message) (now : Now start before (world_after start before) actions link)
+    (survives : (id : ℕ) → event ≡ events.Crash id → another_full (world_after start before) id ≡ true) where
   abbrev w : World
-  w = world_after (first_world size) before
+  w = world_after start before
 
   -- an event earlier still, and what follows it
   earlier : (a b : List Event) (e : Event) → before ≡ a ++ (e ∷ b) → order ≡ a ++ (e ∷ (b ++ (event ∷ rest)))
@@ -144,7 +142,7 @@ module _ (size : ℕ) (all : Party → List Action) (order : List Event) (some :
   -- so was who did something before
   known_before : (id : ℕ) (a b : List Event) (e : Event) → before ≡ a ++ (e ∷ b) → same (parties.Server id) (party_of e) ≡ true → is_in w.master.used id ≡ true
   known_before id a b e is own = now.used id (wider (t.joins id a (b ++ (event ∷ rest)) e (earlier a b e is) own)) where
-    wider : (is_in (numbers_from 1 size) id ≡ true) ⊎ Among (events.Join id) a → (is_in (numbers_from 1 size) id ≡ true) ⊎ Among (events.Join id) before
+    wider : (is_in start.master.used id ≡ true) ⊎ Among (events.Join id) a → (is_in start.master.used id ≡ true) ⊎ Among (events.Join id) before
     wider (inl first) = inl first
     wider (inr joined) = inr (subst (Among (events.Join id)) (sym is) (among-left (events.Join id) a (e ∷ b) joined))
 
@@ -162,8 +160,8 @@ module _ (size : ℕ) (all : Party → List Action) (order : List Event) (some :
   receiver p parties.Clients m ms is at = refl
   receiver p (parties.Server j) m ms is at = go (is_in w.master.used j) refl where
     nothing : (q : Party) → same parties.Clients q ≡ false → is_in w.master.used j ≡ false → channel w q (parties.Server j) ≡ []
-    nothing parties.Master other unused = (to_unknown size before j some unused).0
-    nothing (parties.Server i) other unused = (to_unknown size before j some unused).1 i
+    nothing parties.Master other unused = (start_unknown start s before j unused).0
+    nothing (parties.Server i) other unused = (start_unknown start s before j unused).1 i
     nothing parties.Clients other unused = absurd (false≢true (sym other))
 
     behind : (xs ys : List Message) → xs ++ ys ≡ [] → ys ≡ []
@@ -259,7 +257,7 @@ module _ (size : ℕ) (all : Party → List Action) (order : List Event) (some :
   -- ---- after it
 
   good : Prefixes (view w)
-  good = (runs-good before (first_world size) [] (first-good size some)).prefixes
+  good = start_good start s before
 
   fallen_still : (e : Event) (id : ℕ) (down : Bool) → down ≡ true → fallen e id down ≡ true
   fallen_still (events.Crash k) id down is = go (eqb id k) where
@@ -289,8 +287,8 @@ module _ (size : ℕ) (all : Party → List Action) (order : List Event) (some :
   fallen_by (events.Join k) id down is = inl is
 
   module _ (p : Party) (d : Action) (after_it : List Action) (is : event ≡ event_of p d) (next_is : actions p ≡ d ∷ after_it) (r : Ready w p d) where
-    world_is : world_after (first_world size) (before ++ event ∷ []) ≡ next w event
-    world_is = world-more (first_world size) before event ∙ after-done w event (subst (λ e. refusal_of w e ≡ None) (sym is) r.free)
+    world_is : world_after start (before ++ event ∷ []) ≡ next w event
+    world_is = world-more start before event ∙ after-done w event (subst (λ e. refusal_of w e ≡ None) (sym is) r.free)
 
     at_next : next w event ≡ next w (event_of p d)
     at_next = ap (next w) is
@@ -318,7 +316,7 @@ module _ (size : ℕ) (all : Party → List Action) (order : List Event) (some :
       | inr new ↦ among-right (events.Crash id) before (event ∷ []) (inl new)
     ]
 
-    used_after : (id : ℕ) → (is_in (numbers_from 1 size) id ≡ true) ⊎ Among (events.Join id) (before ++ event ∷ []) → is_in (next w event).master.used id ≡ true
+    used_after : (id : ℕ) → (is_in start.master.used id ≡ true) ⊎ Among (events.Join id) (before ++ event ∷ []) → is_in (next w event).master.used id ≡ true
     used_after id (inl first) = used_next w event id good (now.used id (inl first))
     used_after id (inr joined) = elim (among-append (events.Join id) before (event ∷ []) joined) [
       | inl old ↦ used_next w event id good (now.used id (inr old))
@@ -328,7 +326,7 @@ module _ (size : ℕ) (all : Party → List Action) (order : List Event) (some :
     abbrev pub after_link : Party → Party → List rust.Message
     after_link = (next_action w actions link p d after_it now.cast next_is r.free).link
 
-    now_after : Now size (before ++ event ∷ []) (next w event) (left actions p after_it) after_link
+    now_after : Now start (before ++ event ∷ []) (next w event) (left actions p after_it) after_link
     now_after = record {
       cast = subst (λ v. Cast v (left actions p after_it) after_link) (sym at_next) (next_action w actions link p d after_it now.cast next_is r.free).cast;
       acted = λ q. subst (λ v. Acted v q (left actions p after_it q)) (sym at_next) (acted_next w actions p d after_it now.acted next_is r.finds q);
@@ -338,8 +336,8 @@ module _ (size : ℕ) (all : Party → List Action) (order : List Event) (some :
       used = used_after;
     }
 
-    pub later : Now size (before ++ event ∷ []) (world_after (first_world size) (before ++ event ∷ [])) (left actions p after_it) after_link
-    later = subst (λ v. Now size (before ++ event ∷ []) v (left actions p after_it) after_link) (sym world_is) now_after
+    pub later : Now start (before ++ event ∷ []) (world_after start (before ++ event ∷ [])) (left actions p after_it) after_link
+    later = subst (λ v. Now start (before ++ event ∷ []) v (left actions p after_it) after_link) (sym world_is) now_after
 
 -- ---- all moments
 
@@ -351,57 +349,56 @@ left_each actions event rest ds each own q = go (same q (party_of event)) refl w
   go true e = subst (λ p. of_party p rest ≡ map (event_of p) ds) (sym (same-true q (party_of event) e)) own
   go false e = sym (ap (λ b. cond b (event ∷ of_party q rest) (of_party q rest)) e) ∙ each q
 
-module _ (size : ℕ) (all : Party → List Action) (order : List Event) (t : IsTimely size all order) where
+module _ (start : World) (all : Party → List Action) (order : List Event) (s : IsStart start) (t : IsTimely start all order) where
   -- where nothing has happened
-  first_down : (id : ℕ) → ((first_world size).server id).down ≡ true → ⊥
-  unfolding first_world
-  first_down id h = go (is_in (numbers_from 1 size) id) h where
-    go : (b : Bool) → (cond b (first_member size id) joining).down ≡ true → ⊥
-    go true e = false≢true e
-    go false e = false≢true e
-
-  first_links : (x y : Party) → (first_world size).link x y ≡ []
-  unfolding first_world
-  first_links x y = refl
-
-  first_used : (id : ℕ) → is_in (numbers_from 1 size) id ≡ true → is_in (first_world size).master.used id ≡ true
-  unfolding first_world
-  first_used id h = h
-
-  pub first_now : Now size [] (first_world size) all (λ x y. [])
+  pub first_now : Now start [] start all (λ x y. [])
   first_now = record {
-    cast = record { lived = λ p. acted_lived (first_world size) p (all p) (t.acted p); means = λ x y. subst (AllMean []) (sym (first_links x y)) tt; law = t.links };
+    cast = record { lived = λ p. acted_lived start p (all p) (t.acted p); means = λ x y. subst (AllMean []) (sym (s.links x y)) tt; law = t.links };
     acted = t.acted;
-    counts = λ x y other. let none = ap (λ (ms : List Message). length ms) (first_links x y) in omega arith;
+    counts = λ x y other. let none = ap (λ (ms : List Message). length ms) (s.links x y) in omega arith;
     fell = λ id h. absurd h;
-    crashed = λ id h. absurd (first_down id h);
-    used = λ id h. elim h [ inl first ↦ first_used id first | inr none ↦ absurd none ];
+    crashed = λ id h. absurd (false≢true (sym (s.lives id) ∙ h));
+    used = λ id h. elim h [ inl first ↦ first | inr none ↦ absurd none ];
   }
 
-module _ (size : ℕ) (all : Party → List Action) (order : List Event) (some : 1 ≤ size) (t : IsInTime size all order) where
-  timely : IsTimely size all order
+module _ (start : World) (all : Party → List Action) (order : List Event) (s : IsStart start) (t : IsInTimeFrom start all order) where
+  pub timely : IsTimely start all order
   timely = record { each = t.each; acted = t.acted; links = t.links; causes = t.causes; detections = t.detections; silence = t.silence; joins = t.joins }
 
   enabled_from : (rest before : List Event) (actions : Party → List Action) (link : Party → Party → List rust.Message) → order ≡ before ++ rest → ((q : Party) → of_party q rest ≡ map (event_of q) (actions q))
-      → Now size before (world_after (first_world size) before) actions link → AreEnabled (world_after (first_world size) before) rest
+      → Now start before (world_after start before) actions link → AreEnabled (world_after start before) rest
   unfolding AreEnabled
   enabled_from [] before actions link split each now = tt
   enabled_from (event ∷ rest) before actions link split each now =
       let p = party_of event in
       let first = first_action (event_of p) (actions p) event (of_party p rest) (sym (own_events p event rest refl) ∙ each p) in
       let survives = λ (id : ℕ) (is : event ≡ events.Crash id). t.survivors id before rest (split ∙ ap (λ e. before ++ (e ∷ rest)) is) in
-      let r = ready size all order some timely before event rest split actions link now survives p first.0 first.1 first.3 refl first.2 in
-      let w = world_after (first_world size) before in (
+      let r = ready start all order s timely before event rest split actions link now survives p first.0 first.1 first.3 refl first.2 in
+      let w = world_after start before in (
         subst (λ e. refusal_of w e ≡ None) (sym first.3) r.free,
-        subst (λ v. AreEnabled v rest) (world-more (first_world size) before event)
-            (enabled_from rest (before ++ event ∷ []) (left actions p first.1) (after_link size all order some timely before event rest split actions link now survives p first.0 first.1 first.3 first.2 r)
+        subst (λ v. AreEnabled v rest) (world-more start before event)
+            (enabled_from rest (before ++ event ∷ []) (left actions p first.1) (after_link start all order s timely before event rest split actions link now survives p first.0 first.1 first.3 first.2 r)
             (split ∙ sym (append_assoc before (event ∷ []) rest)) (left_each actions event rest first.1 each first.4)
-            (later size all order some timely before event rest split actions link now survives p first.0 first.1 first.3 first.2 r)),
+            (later start all order s timely before event rest split actions link now survives p first.0 first.1 first.3 first.2 r)),
       )
 
-  enabled : AreEnabled (first_world size) order
+  enabled : AreEnabled start order
   unfolding world_after
-  enabled = enabled_from order [] all (λ x y. []) refl t.each (first_now size all order timely)
+  enabled = enabled_from order [] all (λ x y. []) refl t.each (first_now start all order s timely)
+
+  -- an answer that a party put to the clients is given
+  pub heard : (from : Party) (a : Answer) → Among (stored.Answer a) (put_to parties.Clients (all from)) → (n : ℕ) × Among (n, a) (given_from 1 start order)
+  heard from a i =
+      let links = agree order start all (λ x y. []) (first_now start all order s timely).cast enabled t.each in
+      all_heard order 1 a start from enabled (among_right a (put_to parties.Clients (all from)) (put_by start order from parties.Clients) (links from parties.Clients) i)
+
+pub orders_from_starts_are_runs : OrdersFromStartsAreRuns
+orders_from_starts_are_runs start all order s t = enabled start all order s t
+
+pub answers_from_starts : AnswersFromStartsAreOfOneObject
+answers_from_starts start all order s t from a i =
+    let given = heard start all order s t from a i in
+    given_of_one_object s.size s.past order given.0 a s.some (subst (λ (v : World). Among (given.0, a) (given_from 1 v order)) (sym s.reached) given.1)
 
 pub orders_in_time_are_runs : OrdersInTimeAreRuns
-orders_in_time_are_runs size all order some t = enabled size all order some t
+orders_in_time_are_runs size all order some t = enabled (first_world size) all order (first_worlds_are_starts size some).0 t

@@ -55,13 +55,13 @@ abbrev admits : List Action
 admits = Joined 2 ∷ Took (Server 2) (stored.Have 1 0) ∷ Took (Server 2) (stored.Caught 1 0) ∷ []
 
 -- It is a member now, and the master would not refuse a detection of server 1. The rule of the log does.
-unready_by_log : ((knows (first_master 1) admits).chain ≡ 1 ∷ 2 ∷ []) × (refusal_of_detection 1 (knows (first_master 1) admits) ≡ None) × (another_full_by_log 1 admits 1 ≡ false)
-unfolding joined hears numbers_from refusal_of_detection
+unready_by_log : ((knows (first_master 1) admits).chain ≡ 1 ∷ 2 ∷ []) × (refusal_of_detection 1 (knows (first_master 1) admits) ≡ None) × (another_full_by_log (first_world 1) admits 1 ≡ false)
+unfolding joined hears first_world numbers_from refusal_of_detection
 unready_by_log = (refl, refl, refl)
 
 -- once the master has taken its Ready, it no longer does
-ready_by_log : another_full_by_log 1 (admits ++ Took (Server 1) (stored.Adopted 2 0) ∷ Took (Server 2) stored.Ready ∷ []) 1 ≡ true
-unfolding joined hears numbers_from
+ready_by_log : another_full_by_log (first_world 1) (admits ++ Took (Server 1) (stored.Adopted 2 0) ∷ Took (Server 2) stored.Ready ∷ []) 1 ≡ true
+unfolding joined hears first_world numbers_from
 ready_by_log = refl
 
 -- so would a crash of server 1 be the last full one's
@@ -133,12 +133,12 @@ nothing_taken from (Server id) = go (id == 2) where
   go true = refl
   go false = refl
 
-full_there : (id : ℕ) → 2 ≡ id → another_full_by_log 2 [] id ≡ true
-unfolding numbers_from
-full_there id is = subst (λ i. another_full_by_log 2 [] i ≡ true) is refl
+full_there : (id : ℕ) → 2 ≡ id → another_full_by_log (first_world 2) [] id ≡ true
+unfolding first_world numbers_from
+full_there id is = subst (λ i. another_full_by_log (first_world 2) [] i ≡ true) is refl
 
-of_first : (id : ℕ) → (id == 2) ≡ true → is_in (numbers_from 1 2) id ≡ true
-unfolding numbers_from
+of_first : (id : ℕ) → (id == 2) ≡ true → is_in (first_world 2).master.used id ≡ true
+unfolding first_world numbers_from
 of_first id is = subst (λ i. is_in (1 ∷ 2 ∷ []) i ≡ true) (sym (eqb-true id 2 is)) refl
 
 -- Whichever cores did these actions, it is one.
@@ -169,6 +169,6 @@ by_the_log acted = record {
     | inr here ↦ absurd (false≢true (ap (λ e. same (Server id) (party_of e)) here.1 ∙ own))
   ];
 } where
-  others_there : (id : ℕ) (log rest : List Action) → did Master ≡ log ++ (Detected id ∷ rest) → another_full_by_log 2 log id ≡ true
+  others_there : (id : ℕ) (log rest : List Action) → did Master ≡ log ++ (Detected id ∷ rest) → another_full_by_log (first_world 2) log id ≡ true
   others_there id [] rest split = let here : Detected 2 ∷ [] ≡ Detected id ∷ rest = split in full_there id (detected_number 2 id (heads_same here))
   others_there id (x ∷ log) rest split = let here : Detected 2 ∷ [] ≡ x ∷ (log ++ (Detected id ∷ rest)) = split in absurd (ends_there log rest (Detected id) (tails_same here))

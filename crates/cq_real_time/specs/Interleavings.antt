@@ -5,10 +5,11 @@ use Rattle.cq_base.specs.declared.party.Party.{Party}
 use Rattle.cq_base.specs.declared.party.Party.TheVariants as parties
 use Rattle.cq_base.specs.Relations.{Among, IsPrefix}
 use Rattle.cq_chain.specs.declared.master.Master as rust_master
+use Rattle.cq_chain.specs.declared.message.Answer.{Answer}
 use Rattle.cq_chain.specs.declared.message.Message as rust
 use Rattle.cq_chain.specs.declared.message.Message.TheVariants as stored
 use Rattle.cq_chain.specs.declared.server.Server as rust_server
-use Rattle.cq_chain.specs.Masters.{Master, numbers_from, first_master, detected, joined, hears_from}
+use Rattle.cq_chain.specs.Masters.{Master, numbers_from, detected, joined, hears_from}
 use Rattle.cq_chain.specs.Messages.{Message, Snap, Have, Adopted, Caught, Ready}
 use Rattle.cq_chain.specs.Parties.{same}
 use Rattle.cq_chain.specs.Servers.{Server}
@@ -21,6 +22,7 @@ use Rattle.cq_events.specs.Worlds.{World, first_world, is_in}
 use Rattle.cq_events.specs.declared.event.Event.{Event}
 use Rattle.cq_events.specs.declared.event.Event.TheVariants as events
 use Rattle.cq_events.specs.Acts.{ServerActs, MasterActs}
+use Rattle.cq_world.specs.Laws.{IsOfTheObject}
 
 -- ---- what was done
 
@@ -59,13 +61,31 @@ abbrev pub takes_on : Party → Party → List Event → ℕ
 takes_on from to [] = 0
 takes_on from to (event ∷ order) = taken_once from to event + takes_on from to order
 
+-- ---- where parties begin
+
+-- A world in which parties may begin: events led to it from a first world of at least one server, no server is down in it, and
+-- no link has a message. Messages may wait in outboxes.
+pub record IsStart (start : World) : Type 0 where
+  pub size : ℕ
+  pub past : List Event
+  pub some : 1 ≤ size
+  pub reached : world_after (first_world size) past ≡ start
+  pub lives : (id : ℕ) → (start.server id).down ≡ false
+  pub links : (from to : Party) → start.link from to ≡ []
+
+-- A first world is one. The master knows just the servers of its chain, and just these are full.
+abbrev pub FirstWorldsAreStarts : Type 0
+FirstWorldsAreStarts = (size : ℕ) → 1 ≤ size
+    → IsStart (first_world size)
+    × ((id : ℕ) → (is_in (first_world size).master.used id ≡ is_in (numbers_from 1 size) id) × (((first_world size).server id).full ≡ is_in (numbers_from 1 size) id))
+
 -- ---- orders in time
 
--- One order in time of the events of all.
-pub record IsInTime (size : ℕ) (actions : Party → List Action) (order : List Event) : Type 0 where
+-- One order in time of the events of all, from a world on.
+pub record IsInTimeFrom (start : World) (actions : Party → List Action) (order : List Event) : Type 0 where
   -- the events of each party are what it did, by its own core
   pub each : (p : Party) → of_party p order ≡ map (event_of p) (actions p)
-  pub acted : (p : Party) → Acted (first_world size) p (actions p)
+  pub acted : (p : Party) → Acted start p (actions p)
   -- what was taken from a link is what was put on it, in order, and each message was put before it was taken
   pub links : (from to : Party) → IsPrefix (taken_from from (actions to)) (put_to to (actions from))
   pub causes : (from to : Party) (before rest : List Event) → order ≡ before ++ (events.Take from to ∷ rest) → takes_on from to before < puts_on from to before
@@ -73,12 +93,26 @@ pub record IsInTime (size : ℕ) (actions : Party → List Action) (order : List
   pub detections : (id : ℕ) (before rest : List Event) → order ≡ before ++ (events.Detect id ∷ rest) → Among (events.Crash id) before
   pub silence : (id : ℕ) (before rest : List Event) (event : Event) → order ≡ before ++ (events.Crash id ∷ rest) → Among event rest → same (parties.Server id) (party_of event) ≡ false
   -- where a server crashes, another one is full and lives
-  pub survivors : (id : ℕ) (before rest : List Event) → order ≡ before ++ (events.Crash id ∷ rest) → another_full (world_after (first_world size) before) id ≡ true
-  -- what a server does that is none of the first chain comes behind its join
+  pub survivors : (id : ℕ) (before rest : List Event) → order ≡ before ++ (events.Crash id ∷ rest) → another_full (world_after start before) id ≡ true
+  -- what a server does that the master didn't know at the start comes behind its join
   pub joins : (id : ℕ) (before rest : List Event) (event : Event) → order ≡ before ++ (event ∷ rest) → same (parties.Server id) (party_of event) ≡ true
-      → (is_in (numbers_from 1 size) id ≡ true) ⊎ Among (events.Join id) before
+      → (is_in start.master.used id ≡ true) ⊎ Among (events.Join id) before
 
--- In an order in time each event is enabled: it is a run of the world.
+-- The same from the first world of so many servers on: the master knows those of the first chain.
+abbrev pub IsInTime : ℕ → (Party → List Action) → List Event → Type 0
+IsInTime size actions order = IsInTimeFrom (first_world size) actions order
+
+-- In an order in time each event is enabled, wherever the parties begin: it is a run of the world.
+abbrev pub OrdersFromStartsAreRuns : Type 0
+OrdersFromStartsAreRuns = (start : World) (actions : Party → List Action) (order : List Event) → IsStart start → IsInTimeFrom start actions order → AreEnabled start order
+
+-- And each answer that a party put to the clients is one queue object's, over the committed list of all that happened: up to the
+-- start, and in the order.
+abbrev pub AnswersFromStartsAreOfOneObject : Type 0
+AnswersFromStartsAreOfOneObject = (start : World) (actions : Party → List Action) (order : List Event) (s : IsStart start) → IsInTimeFrom start actions order
+    → (from : Party) (a : Answer) → Among (stored.Answer a) (put_to parties.Clients (actions from)) → IsOfTheObject s.size (s.past ++ order) a
+
+-- So it is from a first world on.
 abbrev pub OrdersInTimeAreRuns : Type 0
 OrdersInTimeAreRuns = (size : ℕ) (actions : Party → List Action) (order : List Event) → 1 ≤ size → IsInTime size actions order → AreEnabled (first_world size) order
 
@@ -114,20 +148,20 @@ abbrev pub takes_ready : ℕ → Action → Bool
 takes_ready id (Took from x) = same from (parties.Server id) && is_ready x
 takes_ready id action = false
 
--- By what the master did so far a server is full: it is of the first chain, or its Ready was taken.
-abbrev pub full_by_log : ℕ → List Action → ℕ → Bool
-full_by_log size log id = is_in (numbers_from 1 size) id || list_any (takes_ready id) log
+-- By what the master did so far a server is full: it was at the start, or its Ready was taken.
+abbrev pub full_by_log : World → List Action → ℕ → Bool
+full_by_log start log id = (start.server id).full || list_any (takes_ready id) log
 
 -- another member is
-abbrev pub another_full_by_log : ℕ → List Action → ℕ → Bool
-another_full_by_log size log id = list_any (λ other. not (other == id) && full_by_log size log other) (knows (first_master size) log).chain
+abbrev pub another_full_by_log : World → List Action → ℕ → Bool
+another_full_by_log start log id = list_any (λ other. not (other == id) && full_by_log start log other) (knows start.master log).chain
 
--- One order in time in which servers crash as the master's log says: a server crashes when it is detected, and a crash that
--- isn't detected is no event.
-pub record IsByTheLog (size : ℕ) (actions : Party → List Action) (order : List Event) : Type 0 where
+-- One order in time, from a world on, in which servers crash as the master's log says: a server crashes when it is detected, and a
+-- crash that isn't detected is no event.
+pub record IsByTheLogFrom (start : World) (actions : Party → List Action) (order : List Event) : Type 0 where
   -- the events of each party are what it did, by its own core
   pub each : (p : Party) → of_party p order ≡ map (event_of p) (actions p)
-  pub acted : (p : Party) → Acted (first_world size) p (actions p)
+  pub acted : (p : Party) → Acted start p (actions p)
   -- what was taken from a link is what was put on it, in order, and each message was put before it was taken
   pub links : (from to : Party) → IsPrefix (taken_from from (actions to)) (put_to to (actions from))
   pub causes : (from to : Party) (before rest : List Event) → order ≡ before ++ (events.Take from to ∷ rest) → takes_on from to before < puts_on from to before
@@ -137,12 +171,21 @@ pub record IsByTheLog (size : ℕ) (actions : Party → List Action) (order : Li
   pub crashes : (id : ℕ) (before rest : List Event) → order ≡ before ++ (events.Crash id ∷ rest) → (later : List Event) × (rest ≡ events.Detect id ∷ later)
   pub silence : (id : ℕ) (before rest : List Event) (event : Event) → order ≡ before ++ (events.Detect id ∷ rest) → Among event rest → same (parties.Server id) (party_of event) ≡ false
   -- where the master detects a server, another member is full by what the master did before
-  pub others : (id : ℕ) (log rest : List Action) → actions parties.Master ≡ log ++ (Detected id ∷ rest) → another_full_by_log size log id ≡ true
-  -- what a server does that is none of the first chain comes behind its join
+  pub others : (id : ℕ) (log rest : List Action) → actions parties.Master ≡ log ++ (Detected id ∷ rest) → another_full_by_log start log id ≡ true
+  -- what a server does that the master didn't know at the start comes behind its join
   pub joins : (id : ℕ) (before rest : List Event) (event : Event) → order ≡ before ++ (event ∷ rest) → same (parties.Server id) (party_of event) ≡ true
-      → (is_in (numbers_from 1 size) id ≡ true) ⊎ Among (events.Join id) before
+      → (is_in start.master.used id ≡ true) ⊎ Among (events.Join id) before
 
--- An order by the log is one in time, and so a run of the world.
+-- The same from the first world of so many servers on: those of the first chain are full.
+abbrev pub IsByTheLog : ℕ → (Party → List Action) → List Event → Type 0
+IsByTheLog size actions order = IsByTheLogFrom (first_world size) actions order
+
+-- An order by the log is one in time, and so a run of the world, wherever the parties begin.
+abbrev pub LogOrdersFromStartsAreRuns : Type 0
+LogOrdersFromStartsAreRuns = (start : World) (actions : Party → List Action) (order : List Event) → IsStart start → IsByTheLogFrom start actions order
+    → IsInTimeFrom start actions order × AreEnabled start order
+
+-- So it is from a first world on.
 abbrev pub OrdersByTheLogAreRuns : Type 0
 OrdersByTheLogAreRuns = (size : ℕ) (actions : Party → List Action) (order : List Event) → 1 ≤ size → IsByTheLog size actions order
     → IsInTime size actions order × AreEnabled (first_world size) order

@@ -1,6 +1,6 @@
 //! Laws of orders in time. A function here does nothing: its contract is a law, which is proved with it.
 ghost use Rattle.cq_real_time.specs.Laws.{NothingGoesToUnknownServers};
-ghost use Rattle.cq_real_time.specs.Interleavings.{OrdersInTimeAreRuns, OrdersByTheLogAreRuns};
+ghost use Rattle.cq_real_time.specs.Interleavings.{FirstWorldsAreStarts, OrdersFromStartsAreRuns, AnswersFromStartsAreOfOneObject, OrdersInTimeAreRuns, LogOrdersFromStartsAreRuns, OrdersByTheLogAreRuns};
 ghost use Rattle.cq_real_time.specs.Loading.{NoneLoadedIsFirst, LoadedWorldsAreAlone, LoadedWorldsAreReached};
 
 /// Nothing waits for a server that never joined and was no member of the first chain, and nothing stands in a link to it.
@@ -16,12 +16,26 @@ pub fn orders_in_time_are_runs()
     ensures { OrdersInTimeAreRuns }
 {}
 
+/// The same holds wherever the parties begin: in a first world, or in one to which events led, in which no server is down and no
+/// link has a message. What a server does that the master didn't know there comes behind its join. Each answer that was put to
+/// the clients is one queue object's, over the committed list of all that happened up to there and in the order.
+pub fn orders_from_starts_are_runs()
+    ensures first { FirstWorldsAreStarts }
+    ensures runs { OrdersFromStartsAreRuns }
+    ensures answers { AnswersFromStartsAreOfOneObject }
+{}
+
 /// That another server is full and lives where one crashes can be read off what the master did. Take such an order, but in
 /// place of that rule each crash stands just before its detection, nothing of a server comes behind its detection, and the
 /// master detects a server only where another member is of the first chain, or the master has taken its Ready. It is an order
 /// in time, and so a run of the world.
 pub fn orders_by_the_log_are_runs()
     ensures { OrdersByTheLogAreRuns }
+{}
+
+/// The same holds of the log wherever the parties begin: by it a server is full that was full there, or whose Ready was taken.
+pub fn log_orders_from_starts_are_runs()
+    ensures { LogOrdersFromStartsAreRuns }
 {}
 
 /// The world that begins with a list of entries is that of one server alone, at rest behind them, and with none it is the first
