@@ -7,5 +7,6 @@ pub mod Starts
 pub mod Enabling
 pub mod ByTheLog
 pub mod Loading
+pub mod FromStores
 mod Examples
 mod LoadedExamples

@@ -4,13 +4,15 @@ use Rattle.cq_base.specs.declared.ask.Ask.TheVariants.{Create}
 use Rattle.cq_base.specs.declared.ask.Entry.{Entry}
 use Rattle.cq_base.specs.declared.party.Party.TheVariants.{Master, Clients, Server}
 use Rattle.cq_base.specs.queue.History.{last_moment}
-use Rattle.cq_chain.specs.Masters.{first_master}
-use Rattle.cq_chain.specs.Refusals.{refusal_of_arrival}
+use Rattle.cq_chain.specs.declared.fault.WorldFault.TheVariants.{NoSuchServer, LastFull}
+use Rattle.cq_chain.specs.Masters.{first_master, joined, hears, refusal_of_join}
+use Rattle.cq_chain.specs.Refusals.{refusal_of_arrival, refusal_of_taking}
 use Rattle.cq_chain.specs.Servers.{alone, joining}
-use Rattle.cq_chain.specs.Steps.{arrived}
+use Rattle.cq_chain.specs.Steps.{arrived, takes}
 use Rattle.cq_events.specs.Events.{refusal_of, next, after}
 use Rattle.cq_events.specs.Runs.{world_after, refused_from}
 use Rattle.cq_events.specs.Worlds.{first_world, numbers_from}
+use Rattle.cq_events.specs.declared.event.Event.{Event}
 use Rattle.cq_events.specs.declared.event.Event.TheVariants as events
 use Rattle.cq_real_time.specs.Loading.{loaded, arrivals_of}
 use Rattle.cq_real_time.proofs.Loading.{loaded_none}
@@ -50,3 +52,25 @@ falling_moments = refl
 goes_on : ((world_after (loaded two) (events.Arrive 1 9 (created 9).request ∷ [])).server 1).entries ≡ created 5 ∷ created 7 ∷ created 9 ∷ []
 unfolding loaded world_after after next refusal_of numbers_from refusal_of_arrival arrived last_moment
 goes_on = refl
+
+-- ---- from there on
+
+-- It is the only full server: it can't crash.
+only_full : refused_from 1 (loaded two) (events.Crash 1 ∷ []) ≡ (1, LastFull) ∷ []
+unfolding loaded refused_from after refusal_of numbers_from
+only_full = refl
+
+-- the master doesn't know another one, before that one joins
+unknown_yet : refused_from 1 (loaded two) (events.Put (Server 2) Master ∷ []) ≡ (1, NoSuchServer) ∷ []
+unfolding loaded refused_from after refusal_of numbers_from
+unknown_yet = refl
+
+-- server 2 joins, and is fed
+abbrev joins : List Event
+joins = events.Join 2 ∷ events.Put Master (Server 2) ∷ events.Take Master (Server 2) ∷ events.Put (Server 2) Master ∷ events.Take (Server 2) Master ∷ events.Put Master (Server 1) ∷ events.Take Master (Server 1)
+    ∷ events.Put (Server 1) (Server 2) ∷ events.Take (Server 1) (Server 2) ∷ []
+
+-- so it gets the entries with which the chain began
+gets_them : (refused_from 1 (loaded two) joins ≡ []) × (((world_after (loaded two) joins).server 2).entries ≡ two)
+unfolding loaded refused_from world_after after next refusal_of numbers_from refusal_of_join refusal_of_taking joined hears takes
+gets_them = (refl, refl)

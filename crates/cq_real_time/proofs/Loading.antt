@@ -115,11 +115,11 @@ arrived_so before e later = ap (λ x. record { server = settled (appended (alone
 abbrev between : List Entry → Entry → World
 between before e = stepped (loaded before) 1 (taken before e)
 
-here : (before : List Entry) → (loaded before).server 1 ≡ alone before
+pub here : (before : List Entry) → (loaded before).server 1 ≡ alone before
 unfolding loaded
 here before = refl
 
-known : (before : List Entry) → is_in (loaded before).master.used 1 ≡ true
+pub known : (before : List Entry) → is_in (loaded before).master.used 1 ≡ true
 unfolding loaded numbers_from
 known before = refl
 

@@ -1,16 +1,26 @@
 -- A chain that begins with a store: the world of one server that has a list of entries already, and how it comes about.
-use Rattle.std.specs.Prelude.{◌≡◌, ◌≤◌, ◌==◌, List, [], ◌∷◌, length, if◌then◌else◌}
+use Rattle.std.specs.Prelude.{◌≡◌, ◌≤◌, ℕ, ◌==◌, List, [], ◌∷◌, ◌++◌, length, false, if◌then◌else◌}
 use Rattle.cq_base.specs.declared.ask.Entry.{Entry}
 use Rattle.cq_base.specs.declared.limits.TheConstants.{HISTORY_LIMIT}
+use Rattle.cq_base.specs.declared.party.Party.{Party}
 use Rattle.cq_base.specs.declared.party.Party.TheVariants as parties
+use Rattle.cq_base.specs.Relations.{Among, IsPrefix}
+use Rattle.cq_chain.specs.declared.message.Answer.{Answer}
+use Rattle.cq_chain.specs.declared.message.Message.TheVariants as stored
+use Rattle.cq_chain.specs.declared.server.Server as rust_server
 use Rattle.cq_chain.specs.Masters.{first_master}
+use Rattle.cq_chain.specs.Parties.{same}
 use Rattle.cq_chain.specs.Servers.{alone, joining}
+use Rattle.cq_events.specs.Actions.{Action, CoreState, StandsAs, put_to}
+use Rattle.cq_events.specs.Acts.{ServerActs}
 use Rattle.cq_events.specs.Orders.{AreEnabled}
-use Rattle.cq_events.specs.Runs.{world_after}
-use Rattle.cq_events.specs.Worlds.{World, IsAlone, first_world}
+use Rattle.cq_events.specs.Runs.{world_after, committed}
+use Rattle.cq_events.specs.Worlds.{World, IsAlone, first_world, is_in}
 use Rattle.cq_events.specs.declared.event.Event.{Event}
 use Rattle.cq_events.specs.declared.event.Event.TheVariants as events
 use Rattle.cq_store.specs.Laws.{Stamped}
+use Rattle.cq_world.specs.Laws.{IsOfTheObject}
+use Rattle.cq_real_time.specs.Interleavings.{Acted, IsStart, IsInTimeFrom}
 
 -- The world that begins with these entries. Server 1 is the only server of the first chain: it is head, acts and is full, and
 -- has them all, with `acked` and `floor` at their number. Nothing waits at any party, and no link has a message.
@@ -41,3 +51,31 @@ arrivals_of (e ∷ entries) = events.Arrive 1 e.moment e.request ∷ events.Put 
 abbrev pub LoadedWorldsAreReached : Type 0
 LoadedWorldsAreReached = (entries : List Entry) → Stamped entries → length entries ≤ HISTORY_LIMIT
     → AreEnabled (first_world 1) (arrivals_of entries) × (world_after (first_world 1) (arrivals_of entries) ≡ loaded entries)
+
+-- So it is a world in which parties may begin. The master knows server 1 alone, and it alone is full.
+abbrev pub LoadedWorldsAreStarts : Type 0
+LoadedWorldsAreStarts = (entries : List Entry) → Stamped entries → length entries ≤ HISTORY_LIMIT
+    → IsStart (loaded entries)
+    × ((id : ℕ) → (is_in (loaded entries).master.used id ≡ (id == 1)) × (((loaded entries).server id).full ≡ (id == 1)))
+
+-- Its parties begin so: server 1 by a core that stands for the server of a chain of one, at rest behind the entries, with nothing
+-- that waits; and all others as in the first world of one server.
+abbrev pub LoadedPartiesAct : Type 0
+LoadedPartiesAct = (entries : List Entry) (actions : List Action)
+    → ((a b : CoreState rust_server.Server) → StandsAs a (alone entries) (λ to. []) → ServerActs a actions b → Acted (loaded entries) (parties.Server 1) actions)
+    × ((p : Party) → same (parties.Server 1) p ≡ false → Acted (first_world 1) p actions → Acted (loaded entries) p actions)
+
+-- What an order in time from that world on comes to.
+pub record GoesOnFromStore (entries : List Entry) (actions : Party → List Action) (order : List Event) : Type 0 where
+  -- each event of it is enabled, and it is the end of a run of the first world of one server
+  pub enabled : AreEnabled (loaded entries) order
+  pub whole : AreEnabled (first_world 1) (arrivals_of entries ++ order)
+  -- the committed list of that run begins with the entries
+  pub begins : IsPrefix entries (committed 1 (arrivals_of entries ++ order))
+  -- each answer that a party put to the clients is one queue object's, over that list
+  pub answers : (from : Party) (a : Answer) → Among (stored.Answer a) (put_to parties.Clients (actions from)) → IsOfTheObject 1 (arrivals_of entries ++ order) a
+
+-- An order in time from a loaded store on goes on where the run ended that made the store.
+abbrev pub OrdersFromStoresGoOn : Type 0
+OrdersFromStoresGoOn = (entries : List Entry) (actions : Party → List Action) (order : List Event) → Stamped entries → length entries ≤ HISTORY_LIMIT
+    → IsInTimeFrom (loaded entries) actions order → GoesOnFromStore entries actions order

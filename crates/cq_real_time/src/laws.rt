@@ -1,7 +1,7 @@
 //! Laws of orders in time. A function here does nothing: its contract is a law, which is proved with it.
 ghost use Rattle.cq_real_time.specs.Laws.{NothingGoesToUnknownServers};
 ghost use Rattle.cq_real_time.specs.Interleavings.{FirstWorldsAreStarts, OrdersFromStartsAreRuns, AnswersFromStartsAreOfOneObject, OrdersInTimeAreRuns, LogOrdersFromStartsAreRuns, OrdersByTheLogAreRuns};
-ghost use Rattle.cq_real_time.specs.Loading.{NoneLoadedIsFirst, LoadedWorldsAreAlone, LoadedWorldsAreReached};
+ghost use Rattle.cq_real_time.specs.Loading.{NoneLoadedIsFirst, LoadedWorldsAreAlone, LoadedWorldsAreReached, LoadedWorldsAreStarts, LoadedPartiesAct, OrdersFromStoresGoOn};
 
 /// Nothing waits for a server that never joined and was no member of the first chain, and nothing stands in a link to it.
 pub fn nothing_goes_to_unknown_servers()
@@ -49,4 +49,12 @@ pub fn loaded_worlds_are_alone()
 /// arrive one after another, each while the clock shows the moment of its entry, and each answer is put to the clients.
 pub fn loaded_worlds_are_reached()
     ensures { LoadedWorldsAreReached }
+{}
+
+/// An order in time from such a world on is the end of a run of a chain that begins with nothing. The committed list of that run
+/// begins with the entries, and each answer that was put to the clients is one queue object's, over that list.
+pub fn orders_from_stores_go_on()
+    ensures starts { LoadedWorldsAreStarts }
+    ensures parties { LoadedPartiesAct }
+    ensures goes_on { OrdersFromStoresGoOn }
 {}
