@@ -1,5 +1,5 @@
 -- What parties have still to do by their cores from a world on, after the next action of one of them.
-use Rattle.std.proofs.Common.{◌≡◌, ℕ, ◌∙◌, ap, sym, refl, subst, cond, List, [], ◌∷◌, ◌++◌, drop, Bool, true, false, ◌&&◌, ◌==◌, None, inl, inr}
+use Rattle.std.proofs.Common.{◌≡◌, ℕ, ◌∙◌, ap, sym, refl, subst, cond, List, [], ◌∷◌, ◌++◌, drop, Bool, true, false, ◌&&◌, ◌==◌, inl, inr}
 use Rattle.std.proofs.lemmas.Bool.{eqb-true}
 use Rattle.cq_base.specs.declared.party.Party.{Party}
 use Rattle.cq_base.specs.declared.party.Party.TheVariants as parties
@@ -13,13 +13,11 @@ use Rattle.cq_chain.specs.Servers.{Server}
 use Rattle.cq_chain.specs.Stands.{Means, posted, drained}
 use Rattle.cq_chain.specs.Steps.{Step, arrived, asked, takes, crashed}
 use Rattle.cq_events.proofs.Parties.{same-true, same-refl, same-turned}
-use Rattle.cq_events.specs.Actions.{Action, Arrived, Asked, Put, Took, Crashed, Detected, Joined, event_of, CoreState, StandsAs, IsMasterAs, Keeps, Run, ServerRun, MasterRun, Does, DoesMaster, Lived}
-use Rattle.cq_events.specs.Events.{refusal_of, next, after_take, first_of, put_on}
+use Rattle.cq_events.specs.Actions.{Action, Arrived, Asked, Put, Took, Crashed, Detected, Joined, event_of, CoreState, StandsAs, IsMasterAs, ServerRun, MasterRun, Lived}
+use Rattle.cq_events.specs.Events.{next, after_take, first_of, put_on}
 use Rattle.cq_events.specs.Worlds.{World, set_pair, stepped, ordered}
-use Rattle.cq_events.specs.declared.event.Event.TheVariants as events
 use Rattle.cq_events.specs.Acts.{Acts, ActsMaster, ServerActs, MasterActs}
 use Rattle.cq_trace.proofs.OfLaws.ActionLists.{left}
-use Rattle.cq_trace.proofs.OfLaws.Casts.{Cast}
 use Rattle.cq_world.proofs.Eaches.{cons_nil}
 use Rattle.cq_world.proofs.OfSim.Refused.{next-arrive, next-ask, next-crash, next-detect, next-join, next-put, next-take}
 use Rattle.cq_real_time.specs.Interleavings.{ServerActed, MasterActed, Acted}

@@ -1,18 +1,18 @@
 -- What one event changes: how many messages stand in links, who is down, and which servers were used.
-use Rattle.std.proofs.Common.{◌≡◌, ◌<◌, ◌≤◌, ℕ, zero, suc, ◌+◌, arith, ◌∙◌, ap, sym, refl, subst, cond, List, [], ◌∷◌, ◌++◌, length, length-append, drop, nat_lt, is_none, not, min, max, Bool, true, false, ◌&&◌, eqb, Some, None, inl, inr}
-use Rattle.std.proofs.lemmas.Bool.{eqb-true, eq-eqb, false≢true, both_ways}
+use Rattle.std.proofs.Common.{◌≡◌, ℕ, suc, ◌+◌, arith, ◌∙◌, ap, sym, refl, subst, cond, List, [], ◌∷◌, ◌++◌, length, length-append, drop, nat_lt, min, max, Bool, true, false, ◌&&◌, eqb}
+use Rattle.std.proofs.lemmas.Bool.{eqb-true, false≢true}
 use Rattle.cq_base.specs.declared.ask.Query.{Query}
 use Rattle.cq_base.specs.declared.ask.Request.{Request}
 use Rattle.cq_base.specs.declared.party.Party.{Party}
 use Rattle.cq_base.specs.declared.party.Party.TheVariants as parties
-use Rattle.cq_chain.specs.Masters.{Order, is_in, detected, joined, hears_from}
+use Rattle.cq_chain.specs.Masters.{is_in, joined}
 use Rattle.cq_chain.specs.Messages.{Message, Fwd, Snap, Ack, BeHead, Report, Adopt, BeTail, Feed, Have, Adopted, Caught, Ready, Answers}
 use Rattle.cq_chain.specs.Parties.{same}
 use Rattle.cq_chain.specs.Servers.{Server, acts}
 use Rattle.cq_chain.specs.Steps.{Step, silent, to_server, settled, appended, stamped, with_history, as_tail, forwarded, restored, feeding, is_next, is_restoring, arrived, asked, takes, crashed}
 use Rattle.cq_events.proofs.Parties.{same-true, same-turned}
-use Rattle.cq_events.specs.Events.{next, after_put, after_take, taken_by, without_first, first_of, put_on}
-use Rattle.cq_events.specs.Worlds.{World, set_pair, stepped, ordered}
+use Rattle.cq_events.specs.Events.{next, after_put, after_take, taken_by, without_first, first_of}
+use Rattle.cq_events.specs.Worlds.{World, set_pair, stepped}
 use Rattle.cq_events.specs.declared.event.Event.{Event}
 use Rattle.cq_events.specs.declared.event.Event.TheVariants as events
 use Rattle.cq_world.proofs.ExtendedChains.{in_end}

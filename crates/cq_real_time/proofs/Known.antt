@@ -1,22 +1,18 @@
 -- No server has an unknown one as its neighbour, and nothing is on its way to an unknown one.
-use Rattle.std.proofs.Common.{◌≡◌, ℕ, ◌+◌, ◌∙◌, ap, sym, List, [], ◌∷◌, ◌++◌, length, drop, nat_lt, nat_le, is_none, max, min, ◌&&◌, ◌||◌, not, Option, Some, None, Bool, true, false, cond, eqb, subst, refl, inl, inr, append-nil}
-use Rattle.std.proofs.lemmas.Bool.{eqb-true, eq-eqb, false≢true, both_ways, and_parts}
+use Rattle.std.proofs.Common.{◌≡◌, ℕ, ◌+◌, ◌∙◌, ap, sym, List, [], ◌∷◌, ◌++◌, length, drop, nat_lt, nat_le, is_none, ◌&&◌, not, Option, Some, None, Bool, true, false, cond, subst, refl}
+use Rattle.std.proofs.lemmas.Bool.{both_ways}
 use Rattle.cq_base.specs.declared.ask.Entry.{Entry}
 use Rattle.cq_base.specs.declared.ask.Query.{Query}
 use Rattle.cq_base.specs.declared.ask.Request.{Request}
 use Rattle.cq_base.specs.declared.party.Party.{Party}
 use Rattle.cq_base.specs.declared.party.Party.TheVariants as parties
-use Rattle.cq_chain.specs.Masters.{Master, Order, is_in, is_last, closing, said_of_loss, said_of_join, to_last, detected, joined, hears, hears_from, stands_before, joins_behind}
+use Rattle.cq_chain.specs.Masters.{Master, is_in}
 use Rattle.cq_chain.specs.Messages.{Message, Fwd, Snap, Ack, BeHead, Report, Adopt, BeTail, Feed, Have, Adopted, Caught, Ready, Answers}
 use Rattle.cq_chain.specs.Parties.{same, addressed, is_that}
-use Rattle.cq_chain.specs.Servers.{Server, acts, joining}
+use Rattle.cq_chain.specs.Servers.{Server, acts}
 use Rattle.cq_chain.specs.Steps.{Step, silent, to_server, when, settled, appended, stamped, answer_to, begins_to_act, passed_on, tail_news, forwards, repair, is_next, is_restoring, with_history, as_tail, arrived, asked, takes, crashed}
 use Rattle.cq_events.proofs.Parties.{same-true}
-use Rattle.cq_events.specs.Worlds.{set_at, set_pair}
-use Rattle.cq_world.proofs.Chains.{last-in, before-in, chain-used}
 use Rattle.cq_world.proofs.Eaches.{Each, each-append, each-follows, by_id}
-use Rattle.cq_world.proofs.ExtendedChains.{joiner-extended}
-use Rattle.cq_world.proofs.Prefixes.{Prefixes}
 use Rattle.cq_world.proofs.Views.{View, turn, said, drained}
 
 -- ---- the sentences

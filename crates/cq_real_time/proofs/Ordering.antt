@@ -1,29 +1,29 @@
 -- What the master says names used servers, and so no world has anything on its way to an unknown one.
-use Rattle.std.proofs.Common.{◌≡◌, ◌≤◌, ℕ, zero, suc, ◌+◌, ◌-◌, ◌∙◌, arith, ap, sym, List, [], ◌∷◌, ◌++◌, length, drop, nat_lt, ◌&&◌, ◌||◌, not, is_none, Option, Some, None, Bool, true, false, cond, eqb, subst, refl, inl, inr}
+use Rattle.std.proofs.Common.{◌≡◌, ◌≤◌, ℕ, zero, suc, ◌+◌, ◌-◌, ◌∙◌, arith, ap, sym, List, [], ◌∷◌, ◌++◌, drop, ◌&&◌, ◌||◌, not, Option, Some, None, Bool, true, false, cond, eqb, subst, refl, inl, inr}
 use Rattle.std.proofs.lemmas.Bool.{eqb-true, eq-eqb, false≢true, and_parts, or_cases}
 use Rattle.cq_base.specs.declared.ask.Entry.{Entry}
 use Rattle.cq_base.specs.declared.party.Party.{Party}
 use Rattle.cq_base.specs.declared.party.Party.TheVariants as parties
 use Rattle.cq_chain.specs.declared.fault.WorldFault.{WorldFault}
-use Rattle.cq_chain.specs.Masters.{Master, Order, is_in, is_last, closing, said_of_loss, said_of_join, to_last, closed_up, dropped, detected, joined, hears, hears_from, no_order, admitted, stands_before, joins_behind, numbers_from}
+use Rattle.cq_chain.specs.Masters.{Master, Order, is_in, is_last, closing, said_of_loss, said_of_join, to_last, detected, joined, hears, hears_from, no_order, stands_before, joins_behind, numbers_from}
 use Rattle.cq_chain.specs.Messages.{Message, Fwd, Snap, Ack, BeHead, Report, Adopt, BeTail, Feed, Have, Adopted, Caught, Ready, Answers}
-use Rattle.cq_chain.specs.Parties.{same, addressed, is_that}
-use Rattle.cq_chain.specs.Servers.{Server, first_member, joining}
+use Rattle.cq_chain.specs.Parties.{same, is_that}
+use Rattle.cq_chain.specs.Servers.{first_member, joining}
 use Rattle.cq_chain.specs.Steps.{arrived, asked, takes, crashed}
 use Rattle.cq_events.proofs.Numbers.{in-numbers}
-use Rattle.cq_events.specs.Events.{refusal_of, after, next, unless_refused, has_party, after_put, after_take, taken_by, without_first, first_of}
+use Rattle.cq_events.specs.Events.{refusal_of, after, next, unless_refused, after_put, after_take, without_first}
 use Rattle.cq_events.specs.Runs.{world_after, longest_at}
 use Rattle.cq_events.specs.Worlds.{World, first_world, stepped, ordered, channel}
 use Rattle.cq_events.specs.declared.event.Event.{Event}
 use Rattle.cq_events.specs.declared.event.Event.TheVariants as events
-use Rattle.cq_world.proofs.Chains.{last-in, before-in, chain-used}
+use Rattle.cq_world.proofs.Chains.{before-in, chain-used}
 use Rattle.cq_world.proofs.Eaches.{Each}
-use Rattle.cq_world.proofs.ExtendedChains.{joiner-extended, in_left, in_end}
+use Rattle.cq_world.proofs.ExtendedChains.{joiner-extended, in_left}
 use Rattle.cq_world.proofs.Prefixes.{Prefixes}
 use Rattle.cq_world.proofs.Running.{Good, onward, first-good, runs-good, view_ordered}
-use Rattle.cq_world.proofs.Views.{View, view, turn, said, drained, view-put, view-given, view-step, view-taken, view-without}
+use Rattle.cq_world.proofs.Views.{View, view, drained, view-put, view-given, view-step, view-taken, view-without}
 use Rattle.cq_real_time.specs.Laws.{NothingGoesToUnknownServers}
-use Rattle.cq_real_time.proofs.Known.{IsUsed, NamesUsed, GoesTo, Known, Steady, known_turn, known_said, known_drained, arrived_steady, asked_steady, crashed_steady, takes_steady}
+use Rattle.cq_real_time.proofs.Known.{IsUsed, NamesUsed, Known, Steady, known_turn, known_said, known_drained, arrived_steady, asked_steady, crashed_steady, takes_steady}
 
 -- ---- what is said
 
