@@ -8,5 +8,6 @@ pub mod Enabling
 pub mod ByTheLog
 pub mod Loading
 pub mod FromStores
+pub mod Bounds
 mod Examples
 mod LoadedExamples

@@ -42,7 +42,7 @@ run_says (event ∷ events) w h = run_says events (after w event) (after_says w 
 
 module _ (start : World) (s : IsStart start) where
   -- what happens from the start on happens behind its past
-  goes_on : (before : List Event) → world_after (first_world s.size) (s.past ++ before) ≡ world_after start before
+  pub goes_on : (before : List Event) → world_after (first_world s.size) (s.past ++ before) ≡ world_after start before
   goes_on before = run_on s.past before (first_world s.size) ∙ ap (λ v. world_after v before) s.reached
 
   pub start_good : (before : List Event) → Prefixes (view (world_after start before))

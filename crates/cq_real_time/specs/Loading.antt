@@ -58,6 +58,11 @@ LoadedWorldsAreStarts = (entries : List Entry) → Stamped entries → length en
     → IsStart (loaded entries)
     × ((id : ℕ) → (is_in (loaded entries).master.used id ≡ (id == 1)) × (((loaded entries).server id).full ≡ (id == 1)))
 
+-- What any server has at any moment of a run is such a list. So what is saved can be loaded, in a run that began with a store, too.
+abbrev pub HistoriesMayBeLoaded : Type 0
+HistoriesMayBeLoaded = (start : World) (before : List Event) (id : ℕ) → IsStart start
+    → Stamped ((world_after start before).server id).entries × (length ((world_after start before).server id).entries ≤ HISTORY_LIMIT)
+
 -- Its parties begin so: server 1 by a core that stands for the server of a chain of one, at rest behind the entries, with nothing
 -- that waits; and all others as in the first world of one server.
 abbrev pub LoadedPartiesAct : Type 0

@@ -1,7 +1,7 @@
 //! Laws of orders in time. A function here does nothing: its contract is a law, which is proved with it.
 ghost use Rattle.cq_real_time.specs.Laws.{NothingGoesToUnknownServers};
 ghost use Rattle.cq_real_time.specs.Interleavings.{FirstWorldsAreStarts, OrdersFromStartsAreRuns, AnswersFromStartsAreOfOneObject, OrdersInTimeAreRuns, LogOrdersFromStartsAreRuns, OrdersByTheLogAreRuns};
-ghost use Rattle.cq_real_time.specs.Loading.{NoneLoadedIsFirst, LoadedWorldsAreAlone, LoadedWorldsAreReached, LoadedWorldsAreStarts, LoadedPartiesAct, OrdersFromStoresGoOn};
+ghost use Rattle.cq_real_time.specs.Loading.{NoneLoadedIsFirst, LoadedWorldsAreAlone, LoadedWorldsAreReached, LoadedWorldsAreStarts, LoadedPartiesAct, OrdersFromStoresGoOn, HistoriesMayBeLoaded};
 
 /// Nothing waits for a server that never joined and was no member of the first chain, and nothing stands in a link to it.
 pub fn nothing_goes_to_unknown_servers()
@@ -57,4 +57,10 @@ pub fn orders_from_stores_go_on()
     ensures starts { LoadedWorldsAreStarts }
     ensures parties { LoadedPartiesAct }
     ensures goes_on { OrdersFromStoresGoOn }
+{}
+
+/// What any server has at any moment of a run is a list with which a chain can begin: its moments never fall, and it is at most 2^62
+/// long.
+pub fn histories_may_be_loaded()
+    ensures { HistoriesMayBeLoaded }
 {}
