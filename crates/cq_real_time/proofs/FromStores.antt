@@ -48,6 +48,8 @@ loaded_worlds_are_starts entries stamped short = (
     lives = λ id. loaded_lives entries (id == 1);
     links = λ x y. refl;
   },
+  refl,
+  refl,
   λ id. (or_false (1 == id) ∙ eqb-turned 1 id, loaded_full entries (id == 1)),
 )
 

@@ -83,5 +83,7 @@ first_worlds_are_starts size some = (
     lives = λ id. first_lives (is_in (numbers_from 1 size) id) size id;
     links = λ x y. refl;
   },
+  refl,
+  refl,
   λ id. (refl, first_full (is_in (numbers_from 1 size) id) size id),
 )

@@ -73,10 +73,10 @@ pub record IsStart (start : World) : Type 0 where
   pub lives : (id : ℕ) → (start.server id).down ≡ false
   pub links : (from to : Party) → start.link from to ≡ []
 
--- A first world is one. The master knows just the servers of its chain, and just these are full.
+-- A first world is one, to which no events led. The master knows just the servers of its chain, and just these are full.
 abbrev pub FirstWorldsAreStarts : Type 0
 FirstWorldsAreStarts = (size : ℕ) → 1 ≤ size
-    → IsStart (first_world size)
+    → (s : IsStart (first_world size)) × (s.size ≡ size) × (s.past ≡ [])
     × ((id : ℕ) → (is_in (first_world size).master.used id ≡ is_in (numbers_from 1 size) id) × (((first_world size).server id).full ≡ is_in (numbers_from 1 size) id))
 
 -- ---- orders in time

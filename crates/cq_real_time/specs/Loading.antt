@@ -52,10 +52,10 @@ abbrev pub LoadedWorldsAreReached : Type 0
 LoadedWorldsAreReached = (entries : List Entry) → Stamped entries → length entries ≤ HISTORY_LIMIT
     → AreEnabled (first_world 1) (arrivals_of entries) × (world_after (first_world 1) (arrivals_of entries) ≡ loaded entries)
 
--- So it is a world in which parties may begin. The master knows server 1 alone, and it alone is full.
+-- So it is a world in which parties may begin, to which these events led. The master knows server 1 alone, and it alone is full.
 abbrev pub LoadedWorldsAreStarts : Type 0
 LoadedWorldsAreStarts = (entries : List Entry) → Stamped entries → length entries ≤ HISTORY_LIMIT
-    → IsStart (loaded entries)
+    → (s : IsStart (loaded entries)) × (s.size ≡ 1) × (s.past ≡ arrivals_of entries)
     × ((id : ℕ) → (is_in (loaded entries).master.used id ≡ (id == 1)) × (((loaded entries).server id).full ≡ (id == 1)))
 
 -- What any server has at any moment of a run is such a list. So what is saved can be loaded, in a run that began with a store, too.
