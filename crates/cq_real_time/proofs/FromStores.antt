@@ -29,6 +29,7 @@ or_false : (a : Bool) → (a || false) ≡ a
 or_false true = refl
 or_false false = refl
 
+-- nobody is down, and server 1 alone is full
 loaded_lives : (entries : List Entry) (t : Bool) → (cond t (alone entries) joining).down ≡ false
 loaded_lives entries true = refl
 loaded_lives entries false = refl

@@ -103,6 +103,7 @@ answered before e = ap (λ b. when b ((parties.Clients, Answers (answer_to befor
 stamped_so : (before : List Entry) (e : Entry) → last_moment before ≤ e.moment → stamped before e.moment e.request ≡ e
 stamped_so before e later = ap (λ m. record { moment = m; request = e.request }) (max-eq_left later)
 
+-- the step that its arrival is
 abbrev taken : List Entry → Entry → Step
 taken before e = record { server = alone (before ++ e ∷ []); sent = (parties.Clients, Answers (answer_to before e)) ∷ [] }
 
@@ -115,6 +116,7 @@ arrived_so before e later = ap (λ x. record { server = settled (appended (alone
 abbrev between : List Entry → Entry → World
 between before e = stepped (loaded before) 1 (taken before e)
 
+-- it comes to the server of those before it, which is known
 pub here : (before : List Entry) → (loaded before).server 1 ≡ alone before
 unfolding loaded
 here before = refl
@@ -123,10 +125,12 @@ pub known : (before : List Entry) → is_in (loaded before).master.used 1 ≡ tr
 unfolding loaded numbers_from
 known before = refl
 
+-- and has room for it
 room : (before : List Entry) → length before < HISTORY_LIMIT → refusal_of_arrival (alone before) ≡ None
 unfolding refusal_of_arrival
 room before below = ap (λ b. cond b None (Some HistoryFull)) (lt-ltb (length before) HISTORY_LIMIT below)
 
+-- so the arrival is enabled
 arrival_free : (before : List Entry) (e : Entry) → length before < HISTORY_LIMIT → refusal_of (loaded before) (events.Arrive 1 e.moment e.request) ≡ None
 arrival_free before e below = refused-arrive (loaded before) 1 e.moment e.request
     ∙ at-living (loaded before) 1 (refusal_of_arrival ((loaded before).server 1)) (known before) (ap (λ (s : Server). s.down) (here before))
@@ -141,6 +145,7 @@ put_free : (before : List Entry) (e : Entry) → refusal_of (between before e) (
 unfolding loaded numbers_from
 put_free before e = put-known (between before e) (parties.Server 1) parties.Clients refl refl
 
+-- server 1 alone has changed
 served : (before : List Entry) (e : Entry) (t : Bool) → cond t (alone (before ++ e ∷ [])) (cond t (alone before) joining) ≡ cond t (alone (before ++ e ∷ [])) joining
 served before e true = refl
 served before e false = refl
@@ -163,10 +168,12 @@ after_put_world before e = after-done (between before e) (events.Put (parties.Se
 
 -- ---- all entries
 
+-- its moment is the last one then
 last_one : (before : List Entry) (e : Entry) → last_moment (before ++ e ∷ []) ≡ e.moment
 unfolding last_moment
 last_one before e = fold-append (λ _ x. x.moment) 0 before (e ∷ [])
 
+-- entries that are no earlier than those before them
 reached : (rest before : List Entry) → ((e : Entry) → Among e rest → last_moment before ≤ e.moment) → Stamped rest → length before + length rest ≤ HISTORY_LIMIT
     → AreEnabled (loaded before) (arrivals_of rest) × (world_after (loaded before) (arrivals_of rest) ≡ loaded (before ++ rest))
 unfolding AreEnabled world_after

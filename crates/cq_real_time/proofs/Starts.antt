@@ -64,6 +64,7 @@ module _ (start : World) (s : IsStart start) where
 
 -- ---- first worlds
 
+-- nobody is down, and just the servers of the chain are full
 first_lives : (t : Bool) (size id : ℕ) → (cond t (first_member size id) joining).down ≡ false
 first_lives true size id = refl
 first_lives false size id = refl
