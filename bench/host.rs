@@ -60,7 +60,7 @@ fn put_request(out: &mut Vec<u8>, client: u32, number: u64) {
     });
 }
 
-/// A take of what was put: the same number and piece, behind who put it.
+/// A take of what was put: the same piece with its number, behind who put it.
 fn put_take(out: &mut Vec<u8>, from: usize, number_and_run: &[u8]) {
     put_frame(out, |out| {
         out.extend([1, 2]);
@@ -92,7 +92,7 @@ impl Carried {
         match frame[2] {
             0 => put_take(&mut self.outs[MASTER], who, &frame[3..]),
             1 => {
-                let answer = &frame[15..];
+                let answer = &frame[23..];
                 let number = u64::from_le_bytes(answer[6..14].try_into().unwrap());
                 // (behind the flag and the length: created, or sent)
                 assert!(answer[23] == 0 || answer[23] == 2, "the answer is {answer:?}");

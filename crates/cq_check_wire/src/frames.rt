@@ -3,7 +3,7 @@ use crate::dump::{add_hex, add_query, add_request};
 use crate::made::{Draws, moment, query, request, server};
 use crate::stop;
 use cq_base::Party;
-use cq_frames::{Command, Piece, Response, Standing};
+use cq_frames::{Command, Piece, PieceNumber, Response, Standing};
 use std::alloc::Global;
 use std::fmt::Write;
 use std::io;
@@ -25,12 +25,19 @@ fn piece(alloc: Global, draws: &mut Draws) -> io::Result<Piece> {
     Piece::new(bytes).ok_or(stop("no piece"))
 }
 
+fn piece_number(draws: &mut Draws) -> PieceNumber {
+    PieceNumber {
+        message: draws.number(),
+        index: draws.number(),
+    }
+}
+
 /// What a process is told of a link.
 fn passing(alloc: Global, draws: &mut Draws) -> io::Result<Command> {
     Ok(match draws.below(3) {
         0 => Command::Take {
             from: party(draws)?,
-            number: draws.number(),
+            number: piece_number(draws),
             piece: piece(alloc, draws)?,
         },
         1 => Command::More { to: party(draws)? },
@@ -78,7 +85,7 @@ pub fn response(alloc: Global, draws: &mut Draws) -> io::Result<Response> {
     Ok(match draws.below(7) {
         0 => Response::Put {
             to: party(draws)?,
-            number: draws.number(),
+            number: piece_number(draws),
             piece: piece(alloc, draws)?,
         },
         1 => Response::Refused {
@@ -137,7 +144,7 @@ pub fn add_command(text: &mut String, command: &Command) -> io::Result<()> {
         } => {
             text.push_str(" take")?;
             add_party(text, *from)?;
-            write!(text, " {number}")?;
+            write!(text, " {} {}", number.message, number.index)?;
             add_piece(text, piece)
         }
         Command::Detect { server } => {
@@ -187,7 +194,7 @@ pub fn add_response(text: &mut String, response: &Response) -> io::Result<()> {
         Response::Put { to, number, piece } => {
             text.push_str(" put")?;
             add_party(text, *to)?;
-            write!(text, " {number}")?;
+            write!(text, " {} {}", number.message, number.index)?;
             add_piece(text, piece)
         }
         Response::Refused { code } => {

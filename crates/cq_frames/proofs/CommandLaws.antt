@@ -1,23 +1,22 @@
 -- Commands that are read were written so, and what was written is read.
-use Rattle.std.proofs.Common.{◌≡◌, ℕ, ◌^◌, ◌<◌, ◌≤◌, true, cond, eqb, List, [], ◌∷◌, ◌++◌, Result, Ok, Err, refl, sym, subst}
-use Rattle.std.specs.Int.{w64}
+use Rattle.std.proofs.Common.{◌≡◌, ℕ, ◌≤◌, true, cond, eqb, List, [], ◌∷◌, ◌++◌, Result, Ok, Err, refl, sym, subst}
 use Rattle.std.proofs.lemmas.Bool.{eqb-true}
 use Rattle.cq_base.specs.declared.limits.TheConstants.{MOMENT_LIMIT}
 use Rattle.cq_frames.specs.declared.command.Command.{Command}
 use Rattle.cq_frames.specs.declared.command.Command.TheVariants as commands
-use Rattle.cq_frames.specs.Layout.{party, command}
-use Rattle.cq_frames.specs.Limits.{IsParty, IsPiece, IsCommand}
-use Rattle.cq_frames.specs.Reading.{party_at, piece_at, arrive_at, ask_at, take_at, detect_at, join_at, more_at, gone_at, load_at, command_at}
+use Rattle.cq_frames.specs.Layout.{party, piece_number, command}
+use Rattle.cq_frames.specs.Limits.{IsParty, IsPiece, IsPieceNumber, IsCommand}
+use Rattle.cq_frames.specs.Reading.{party_at, piece_at, piece_number_at, arrive_at, ask_at, take_at, detect_at, join_at, more_at, gone_at, load_at, command_at}
 use Rattle.cq_wire.specs.declared.fault.WireFault.{WireFault}
 use Rattle.cq_wire.specs.declared.fault.WireFault.TheVariants.{BadTag}
 use Rattle.cq_wire.specs.Layout.{number32, number64, query, request, text}
 use Rattle.cq_wire.specs.Limits.{IsQuery, IsRequest, IsServer}
-use Rattle.cq_wire.specs.Reading.{◌>>=◌, number_at, server_at, moment_at, query_at, request_at}
+use Rattle.cq_wire.specs.Reading.{◌>>=◌, server_at, moment_at, query_at, request_at}
 use Rattle.cq_wire.proofs.Fronts.{IsBytes, IsBytes-rest, Takes, Takes-nothing, Takes-tagged, Reads, IsRead, ok_is, either, read_as}
 use Rattle.cq_wire.proofs.Sequences.{one, two, three, one_read, two_read, three_read}
-use Rattle.cq_wire.proofs.PartLaws.{reads64, is_read64, moment_reads, moment_is_read, server_reads, server_is_read}
+use Rattle.cq_wire.proofs.PartLaws.{moment_reads, moment_is_read, server_reads, server_is_read}
 use Rattle.cq_wire.proofs.AskLaws.{query_reads, query_is_read, request_reads, request_is_read}
-use Rattle.cq_frames.proofs.PartLaws.{party_reads, party_is_read, piece_reads, piece_is_read}
+use Rattle.cq_frames.proofs.PartLaws.{party_reads, party_is_read, piece_number_reads, piece_number_is_read, piece_reads, piece_is_read}
 
 -- what is read of a command, with the byte for its kind
 abbrev IsCommandRead : ℕ → List ℕ → Command × List ℕ → Type 0
@@ -38,8 +37,8 @@ ask_reads bytes x fits e =
 take_reads : (bytes : List ℕ) (x : Command × List ℕ) → IsBytes bytes → take_at bytes ≡ Ok x → IsCommandRead 2 bytes x
 unfolding take_at command
 take_reads bytes x fits e =
-    three party party_at IsParty number64 (number_at w64) (λ n. n < 2 ^ 64) text piece_at IsPiece commands.Take party_reads reads64 piece_reads bytes x fits e (IsCommandRead 2 bytes)
-    (λ a b c rest t f. (Takes-tagged 2 bytes (party a ++ (number64 b ++ text c)) rest t, f))
+    three party party_at IsParty piece_number piece_number_at IsPieceNumber text piece_at IsPiece commands.Take party_reads piece_number_reads piece_reads bytes x fits e (IsCommandRead 2 bytes)
+    (λ a b c rest t f. (Takes-tagged 2 bytes (party a ++ (piece_number b ++ text c)) rest t, f))
 
 detect_reads : (bytes : List ℕ) (x : Command × List ℕ) → IsBytes bytes → detect_at bytes ≡ Ok x → IsCommandRead 3 bytes x
 unfolding detect_at command
@@ -109,7 +108,7 @@ pub command_is_read : IsRead command command_at IsCommand
 unfolding command command_at arrive_at ask_at take_at detect_at join_at more_at gone_at load_at
 command_is_read (commands.Arrive a b) rest fits = two_read number64 moment_at (λ n. n ≤ MOMENT_LIMIT) request request_at IsRequest commands.Arrive moment_is_read request_is_read a b rest fits
 command_is_read (commands.Ask a) rest fits = one_read query query_at IsQuery commands.Ask query_is_read a rest fits
-command_is_read (commands.Take a b c) rest fits = three_read party party_at IsParty number64 (number_at w64) (λ n. n < 2 ^ 64) text piece_at IsPiece commands.Take party_is_read is_read64 piece_is_read a b c rest fits
+command_is_read (commands.Take a b c) rest fits = three_read party party_at IsParty piece_number piece_number_at IsPieceNumber text piece_at IsPiece commands.Take party_is_read piece_number_is_read piece_is_read a b c rest fits
 command_is_read (commands.Detect a) rest fits = one_read number32 server_at IsServer commands.Detect server_is_read a rest fits
 command_is_read (commands.Join a) rest fits = one_read number32 server_at IsServer commands.Join server_is_read a rest fits
 command_is_read (commands.More a) rest fits = one_read party party_at IsParty commands.More party_is_read a rest fits

@@ -6,18 +6,21 @@ use Rattle.cq_base.specs.declared.party.Party.TheVariants.{Master, Clients, Serv
 use Rattle.cq_frames.specs.declared.command.Command.TheVariants as commands
 use Rattle.cq_frames.specs.declared.response.Response.TheVariants as responses
 use Rattle.cq_frames.specs.Frames.{frame_at}
-use Rattle.cq_frames.specs.Layout.{party, command, response, standing}
+use Rattle.cq_frames.specs.Layout.{party, piece_number, command, response, standing}
 use Rattle.cq_frames.specs.Reading.{party_at, more_at, command_at, response_at}
 use Rattle.cq_wire.specs.declared.fault.WireFault.TheVariants.{BadTag, BytesLeft, Truncated}
 use Rattle.cq_wire.specs.Layout.{number32, number64, text, flag, ask, request, query}
 use Rattle.cq_wire.specs.Reading.{whole_at, all_of, number_at, bytes_at}
 
--- the number 7 in four bytes, and 258 in eight
+-- the number 7 in four bytes, and 258 and 3 in eight
 seven : List ℕ
 seven = 7 ∷ 0 ∷ 0 ∷ 0 ∷ []
 
 many : List ℕ
 many = 2 ∷ 1 ∷ 0 ∷ 0 ∷ 0 ∷ 0 ∷ 0 ∷ 0 ∷ []
+
+three : List ℕ
+three = 3 ∷ 0 ∷ 0 ∷ 0 ∷ 0 ∷ 0 ∷ 0 ∷ 0 ∷ []
 
 -- a name behind its length
 name : List ℕ
@@ -31,8 +34,8 @@ the_query : command (commands.Ask (record { client = 7; tag = 258; queue = codes
 unfolding command query text number32 number64 seven many name
 the_query = refl
 
-the_take : command (commands.Take (Server 7) 258 (1 ∷ 2 ∷ [])) ≡ 2 ∷ 2 ∷ (seven ++ (many ++ (2 ∷ 0 ∷ 0 ∷ 0 ∷ 1 ∷ 2 ∷ [])))
-unfolding command party text number32 number64 seven many
+the_take : command (commands.Take (Server 7) (record { message = 258; index = 3 }) (1 ∷ 2 ∷ [])) ≡ 2 ∷ 2 ∷ (seven ++ (many ++ (three ++ (2 ∷ 0 ∷ 0 ∷ 0 ∷ 1 ∷ 2 ∷ []))))
+unfolding command party piece_number text number32 number64 seven many three
 the_take = refl
 
 the_detection : command (commands.Detect 7) ≡ 3 ∷ seven
@@ -59,8 +62,8 @@ the_load : command (commands.Load (1 ∷ 2 ∷ [])) ≡ 8 ∷ 2 ∷ 0 ∷ 0 ∷ 
 unfolding command text number32
 the_load = refl
 
-the_put : response (responses.Put Master 258 (1 ∷ 2 ∷ [])) ≡ 0 ∷ 0 ∷ (many ++ (2 ∷ 0 ∷ 0 ∷ 0 ∷ 1 ∷ 2 ∷ []))
-unfolding response party text number32 number64 many
+the_put : response (responses.Put Master (record { message = 258; index = 3 }) (1 ∷ 2 ∷ [])) ≡ 0 ∷ 0 ∷ (many ++ (three ++ (2 ∷ 0 ∷ 0 ∷ 0 ∷ 1 ∷ 2 ∷ [])))
+unfolding response party piece_number text number32 number64 many three
 the_put = refl
 
 the_refusal : response (responses.Refused 7) ≡ 1 ∷ seven

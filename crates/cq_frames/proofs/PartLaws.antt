@@ -1,25 +1,26 @@
--- Parties, pieces and frames that are read were written so, and what was written is read.
+-- Parties, pieces with their numbers, and frames that are read were written so, and what was written is read.
 use Rattle.std.proofs.Common.{◌≡◌, ℕ, ◌^◌, ◌<◌, ◌≤◌, true, false, cond, eqb, leb, leb-true, le-leb, List, [], ◌∷◌, ◌++◌, length, take, drop, Result, Ok, Err, refl, sym, subst, append_assoc, ltb, arith}
 use Rattle.std.specs.Prelude.{⊤}
-use Rattle.std.specs.Int.{w32}
+use Rattle.std.specs.Int.{w32, w64}
 use Rattle.std.proofs.lemmas.Bool.{eqb-true, le-ltb}
 use Rattle.std.proofs.lemmas.List.{take_at, drop_at, length-append}
 use Rattle.cq_base.specs.declared.party.Party.{Party}
 use Rattle.cq_base.specs.declared.party.Party.TheVariants.{Master, Clients, Server}
 use Rattle.cq_frames.specs.declared.frame.TheConstants.{FRAME_LIMIT}
+use Rattle.cq_frames.specs.declared.number.PieceNumber.{PieceNumber}
 use Rattle.cq_frames.specs.declared.piece.TheConstants.{PIECE_LIMIT}
 use Rattle.cq_frames.specs.Frames.{frame_at}
-use Rattle.cq_frames.specs.Layout.{party}
-use Rattle.cq_frames.specs.Limits.{IsParty, IsPiece}
-use Rattle.cq_frames.specs.Reading.{a_server_at, party_at, piece_at}
+use Rattle.cq_frames.specs.Layout.{party, piece_number}
+use Rattle.cq_frames.specs.Limits.{IsParty, IsPiece, IsPieceNumber}
+use Rattle.cq_frames.specs.Reading.{a_server_at, party_at, piece_at, piece_number_at}
 use Rattle.cq_wire.specs.declared.fault.WireFault.{WireFault}
 use Rattle.cq_wire.specs.declared.fault.WireFault.TheVariants.{BadTag, BadNumber}
-use Rattle.cq_wire.specs.Layout.{number32, text}
+use Rattle.cq_wire.specs.Layout.{number32, number64, text}
 use Rattle.cq_wire.specs.Limits.{IsServer}
 use Rattle.cq_wire.specs.Reading.{◌>>=◌, number_at, bytes_at, run_at, server_at}
 use Rattle.cq_wire.proofs.Fronts.{IsBytes, IsBytes-rest, Takes, Takes-nothing, Takes-tagged, Reads, IsRead, ok_is, either, read_as}
-use Rattle.cq_wire.proofs.Sequences.{kept_reads, kept_is_read, one, one_read}
-use Rattle.cq_wire.proofs.PartLaws.{is_read32, run_reads, run_is_read, server_reads, server_is_read}
+use Rattle.cq_wire.proofs.Sequences.{kept_reads, kept_is_read, one, one_read, two, two_read}
+use Rattle.cq_wire.proofs.PartLaws.{is_read32, is_read64, reads64, run_reads, run_is_read, server_reads, server_is_read}
 
 -- ---- pieces
 
@@ -30,6 +31,21 @@ piece_reads bytes x fits e = let r = kept_reads text run_at (λ t. length t < 2 
 pub piece_is_read : IsRead text piece_at IsPiece
 unfolding piece_at
 piece_is_read t rest le = kept_is_read text run_at (λ t. length t < 2 ^ 32) (λ t. leb (length t) PIECE_LIMIT) BadNumber run_is_read t rest (omega (arith, le), le-leb _ _ le)
+
+-- ---- their numbers
+
+numbered : ℕ → ℕ → PieceNumber
+numbered message index = record { message = message; index = index }
+
+pub piece_number_reads : Reads piece_number piece_number_at IsPieceNumber
+unfolding piece_number_at piece_number numbered
+piece_number_reads bytes x fits e =
+    two number64 (number_at w64) (λ n. n < 2 ^ 64) number64 (number_at w64) (λ n. n < 2 ^ 64) numbered reads64 reads64 bytes x fits e (λ y. Takes bytes (piece_number y.0) y.1 × IsPieceNumber y.0)
+    (λ a b rest t f. (t, f))
+
+pub piece_number_is_read : IsRead piece_number piece_number_at IsPieceNumber
+unfolding piece_number_at piece_number numbered
+piece_number_is_read n rest fits = two_read number64 (number_at w64) (λ n. n < 2 ^ 64) number64 (number_at w64) (λ n. n < 2 ^ 64) numbered is_read64 is_read64 n.message n.index rest fits
 
 -- ---- parties
 

@@ -7,9 +7,9 @@ use Rattle.cq_base.specs.declared.limits.TheConstants.{MOMENT_LIMIT}
 use Rattle.cq_frames.specs.declared.response.Response.{Response}
 use Rattle.cq_frames.specs.declared.response.Response.TheVariants as responses
 use Rattle.cq_frames.specs.declared.response.Standing.{Standing}
-use Rattle.cq_frames.specs.Layout.{party, response, standing}
-use Rattle.cq_frames.specs.Limits.{IsParty, IsPiece, IsResponse, IsStanding}
-use Rattle.cq_frames.specs.Reading.{party_at, piece_at, standing_at, put_at, refused_at, unread_at, waiting_at, saved_at, done_at, response_at}
+use Rattle.cq_frames.specs.Layout.{party, piece_number, response, standing}
+use Rattle.cq_frames.specs.Limits.{IsParty, IsPiece, IsPieceNumber, IsResponse, IsStanding}
+use Rattle.cq_frames.specs.Reading.{party_at, piece_at, piece_number_at, standing_at, put_at, refused_at, unread_at, waiting_at, saved_at, done_at, response_at}
 use Rattle.cq_wire.specs.declared.fault.WireFault.{WireFault}
 use Rattle.cq_wire.specs.declared.fault.WireFault.TheVariants.{BadTag}
 use Rattle.cq_wire.specs.Layout.{number32, number64, flag, text}
@@ -17,7 +17,7 @@ use Rattle.cq_wire.specs.Reading.{◌>>=◌, number_at, flag_at, moment_at}
 use Rattle.cq_wire.proofs.Fronts.{IsBytes, IsBytes-rest, Takes, Takes-then, Takes-nothing, Takes-tagged, Reads, IsRead, bind_ok, ok_is, either, read_as}
 use Rattle.cq_wire.proofs.Sequences.{one, two, three, four, one_read, two_read, three_read, four_read}
 use Rattle.cq_wire.proofs.PartLaws.{reads32, reads64, is_read32, is_read64, flag_reads, flag_is_read, moment_reads, moment_is_read}
-use Rattle.cq_frames.proofs.PartLaws.{party_reads, party_is_read, piece_reads, piece_is_read}
+use Rattle.cq_frames.proofs.PartLaws.{party_reads, party_is_read, piece_number_reads, piece_number_is_read, piece_reads, piece_is_read}
 
 -- ---- where a server stands
 
@@ -55,8 +55,8 @@ IsResponseRead kind bytes x = Takes (kind ∷ bytes) (response x.0) x.1 × IsRes
 put_reads : (bytes : List ℕ) (x : Response × List ℕ) → IsBytes bytes → put_at bytes ≡ Ok x → IsResponseRead 0 bytes x
 unfolding put_at response
 put_reads bytes x fits e =
-    three party party_at IsParty number64 (number_at w64) (λ n. n < 2 ^ 64) text piece_at IsPiece responses.Put party_reads reads64 piece_reads bytes x fits e (IsResponseRead 0 bytes)
-    (λ a b c rest t f. (Takes-tagged 0 bytes (party a ++ (number64 b ++ text c)) rest t, f))
+    three party party_at IsParty piece_number piece_number_at IsPieceNumber text piece_at IsPiece responses.Put party_reads piece_number_reads piece_reads bytes x fits e (IsResponseRead 0 bytes)
+    (λ a b c rest t f. (Takes-tagged 0 bytes (party a ++ (piece_number b ++ text c)) rest t, f))
 
 refused_reads : (bytes : List ℕ) (x : Response × List ℕ) → IsBytes bytes → refused_at bytes ≡ Ok x → IsResponseRead 1 bytes x
 unfolding refused_at response
@@ -120,7 +120,7 @@ response_reads (kind ∷ rest) x fits e =
 
 pub response_is_read : IsRead response response_at IsResponse
 unfolding response response_at put_at refused_at unread_at waiting_at saved_at done_at
-response_is_read (responses.Put a b c) rest fits = three_read party party_at IsParty number64 (number_at w64) (λ n. n < 2 ^ 64) text piece_at IsPiece responses.Put party_is_read is_read64 piece_is_read a b c rest fits
+response_is_read (responses.Put a b c) rest fits = three_read party party_at IsParty piece_number piece_number_at IsPieceNumber text piece_at IsPiece responses.Put party_is_read piece_number_is_read piece_is_read a b c rest fits
 response_is_read (responses.Refused a) rest fits = one_read number32 (number_at w32) (λ n. n < 2 ^ 32) responses.Refused is_read32 a rest fits
 response_is_read (responses.Unread a) rest fits = one_read number32 (number_at w32) (λ n. n < 2 ^ 32) responses.Unread is_read32 a rest fits
 response_is_read (responses.Waiting a) rest fits = one_read party party_at IsParty responses.Waiting party_is_read a rest fits

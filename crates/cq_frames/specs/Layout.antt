@@ -4,6 +4,7 @@ use Rattle.cq_base.specs.declared.party.Party.{Party}
 use Rattle.cq_base.specs.declared.party.Party.TheVariants.{Master, Clients, Server}
 use Rattle.cq_frames.specs.declared.command.Command.{Command}
 use Rattle.cq_frames.specs.declared.command.Command.TheVariants as commands
+use Rattle.cq_frames.specs.declared.number.PieceNumber.{PieceNumber}
 use Rattle.cq_frames.specs.declared.response.Response.{Response}
 use Rattle.cq_frames.specs.declared.response.Response.TheVariants as responses
 use Rattle.cq_frames.specs.declared.response.Standing.{Standing}
@@ -14,11 +15,14 @@ party Master = 0 ∷ []
 party Clients = 1 ∷ []
 party (Server id) = 2 ∷ number32 id
 
+unfoldable pub piece_number : PieceNumber → List ℕ
+piece_number n = number64 n.message ++ number64 n.index
+
 -- A byte for the kind, and the parts in their order; a piece stands behind its length.
 unfoldable pub command : Command → List ℕ
 command (commands.Arrive clock one) = 0 ∷ (number64 clock ++ request one)
 command (commands.Ask one) = 1 ∷ query one
-command (commands.Take from number piece) = 2 ∷ (party from ++ (number64 number ++ text piece))
+command (commands.Take from number piece) = 2 ∷ (party from ++ (piece_number number ++ text piece))
 command (commands.Detect server) = 3 ∷ number32 server
 command (commands.Join server) = 4 ∷ number32 server
 command (commands.More to) = 5 ∷ party to
@@ -30,7 +34,7 @@ unfoldable pub standing : Standing → List ℕ
 standing s = number64 s.count ++ (number64 s.acked ++ (number64 s.last ++ (flag s.is_head ++ (flag s.is_acting ++ flag s.is_full))))
 
 unfoldable pub response : Response → List ℕ
-response (responses.Put to number piece) = 0 ∷ (party to ++ (number64 number ++ text piece))
+response (responses.Put to number piece) = 0 ∷ (party to ++ (piece_number number ++ text piece))
 response (responses.Refused code) = 1 ∷ number32 code
 response (responses.Unread code) = 2 ∷ number32 code
 response (responses.Waiting to) = 3 ∷ party to

@@ -5,6 +5,7 @@ use Rattle.cq_base.specs.declared.party.Party.{Party}
 use Rattle.cq_base.specs.declared.party.Party.TheVariants.{Master, Clients, Server}
 use Rattle.cq_frames.specs.declared.command.Command.{Command}
 use Rattle.cq_frames.specs.declared.command.Command.TheVariants as commands
+use Rattle.cq_frames.specs.declared.number.PieceNumber.{PieceNumber}
 use Rattle.cq_frames.specs.declared.piece.TheConstants.{PIECE_LIMIT}
 use Rattle.cq_frames.specs.declared.response.Response.{Response}
 use Rattle.cq_frames.specs.declared.response.Response.TheVariants as responses
@@ -25,6 +26,12 @@ party_at (kind ∷ rest) =
     if kind == 0 then Ok (Master, rest)
     else (if kind == 1 then Ok (Clients, rest)
     else (if kind == 2 then a_server_at rest else Err BadTag))
+
+unfoldable pub piece_number_at : Reader PieceNumber
+piece_number_at bytes = do
+  message ← number_at w64 bytes
+  index ← number_at w64 message.1
+  Ok (record { message = message.0; index = index.0 }, index.1)
 
 -- bytes behind their number, which aren't too many
 unfoldable pub piece_at : Reader (List ℕ)
@@ -48,7 +55,7 @@ ask_at bytes = do
 unfoldable pub take_at : Reader Command
 take_at bytes = do
   from ← party_at bytes
-  number ← number_at w64 from.1
+  number ← piece_number_at from.1
   piece ← piece_at number.1
   Ok (commands.Take from.0 number.0 piece.0, piece.1)
 
@@ -105,7 +112,7 @@ standing_at bytes = do
 unfoldable pub put_at : Reader Response
 put_at bytes = do
   to ← party_at bytes
-  number ← number_at w64 to.1
+  number ← piece_number_at to.1
   piece ← piece_at number.1
   Ok (responses.Put to.0 number.0 piece.0, piece.1)
 

@@ -1,4 +1,5 @@
 //! What a process is told by its host.
+use crate::number::PieceNumber;
 use crate::piece::Piece;
 use cq_base::{Moment, Party, Query, Request, ServerId};
 
@@ -14,10 +15,10 @@ pub enum Command {
     Ask {
         query: Query,
     },
-    /// The next piece of the message of that number on the link from that party.
+    /// The piece of that number on the link from that party.
     Take {
         from: Party,
-        number: u64,
+        number: PieceNumber,
         piece: Piece,
     },
     /// At the master: that server has crashed.

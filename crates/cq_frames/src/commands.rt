@@ -4,8 +4,8 @@ ghost use Rattle.cq_frames.specs.Reading.{arrive_at, ask_at, command_at, detect_
 ghost use Rattle.cq_wire.specs.Reading.{Gives};
 
 use crate::command::Command;
-use crate::party::{party_of, piece_of};
-use cq_wire::{ReadFault, WireFault, moment_of, query_of, request_of, server_of, u64_of};
+use crate::party::{party_of, piece_number_of, piece_of};
+use cq_wire::{ReadFault, WireFault, moment_of, query_of, request_of, server_of};
 use std::alloc::Global;
 
 #[tactic(auto, unfolding(crate::specs::Reading::arrive_at))]
@@ -42,7 +42,10 @@ fn take_of(alloc: Global, bytes: &[u8]) -> Result<(Command, &[u8]), ReadFault>
         Ok(read) => read,
         Err(fault) => return Err(fault),
     };
-    let (number, rest) = u64_of(rest)?;
+    let (number, rest) = match piece_number_of(rest) {
+        Ok(read) => read,
+        Err(fault) => return Err(fault),
+    };
     let (piece, rest) = match piece_of(alloc, rest) {
         Ok(read) => read,
         Err(fault) => return Err(fault),

@@ -1,8 +1,9 @@
 //! What holds of each command and of each response, so that it has bytes that are read back.
 ghost use Rattle.std.specs.Prelude.{◌≤◌, ◌<◌, ◌^◌};
-ghost use Rattle.cq_frames.specs.Limits.{IsCommand, IsParty, IsPiece, IsResponse, IsStanding};
+ghost use Rattle.cq_frames.specs.Limits.{IsCommand, IsParty, IsPiece, IsPieceNumber, IsResponse, IsStanding};
 
 use crate::command::Command;
+use crate::number::PieceNumber;
 use crate::piece::Piece;
 use crate::response::{Response, Standing};
 use cq_base::Party;
@@ -23,6 +24,13 @@ fn piece_fits(piece: &Piece)
     let _bytes = piece.as_bytes();
 }
 
+fn number_fits(number: PieceNumber)
+    ensures { IsPieceNumber number }
+{
+    let _message = number.message;
+    let _index = number.index;
+}
+
 /// Each command has bytes: O(1).
 pub fn command_fits(command: &Command)
     ensures { IsCommand command.now }
@@ -39,7 +47,7 @@ pub fn command_fits(command: &Command)
             piece,
         } => {
             party_fits(*from);
-            let _number = *number;
+            number_fits(*number);
             piece_fits(piece);
         }
         Command::Detect { server } | Command::Join { server } | Command::Gone { server } => {
@@ -66,7 +74,7 @@ pub fn response_fits(response: &Response)
     match response {
         Response::Put { to, number, piece } => {
             party_fits(*to);
-            let _number = *number;
+            number_fits(*number);
             piece_fits(piece);
         }
         Response::Refused { code } | Response::Unread { code } => {

@@ -1,11 +1,12 @@
-//! Parties and pieces, each from the front of bytes.
+//! Parties, pieces and their numbers, each from the front of bytes.
 ghost use Rattle.std.specs.Prelude.{◌≡◌};
-ghost use Rattle.cq_frames.specs.Reading.{a_server_at, party_at, piece_at};
+ghost use Rattle.cq_frames.specs.Reading.{a_server_at, party_at, piece_at, piece_number_at};
 ghost use Rattle.cq_wire.specs.Reading.{Gives};
 
+use crate::number::PieceNumber;
 use crate::piece::Piece;
 use cq_base::Party;
-use cq_wire::{ReadFault, WireFault, run_of, server_of};
+use cq_wire::{ReadFault, WireFault, run_of, server_of, u64_of};
 use std::alloc::Global;
 
 #[tactic(auto, unfolding(crate::specs::Reading::a_server_at))]
@@ -30,6 +31,15 @@ pub fn party_of(bytes: &[u8]) -> Result<(Party, &[u8]), ReadFault>
         [2, rest @ ..] => a_server_of(rest),
         [_, ..] => Err(ReadFault::Bad(WireFault::BadTag)),
     }
+}
+
+#[tactic(auto, unfolding(crate::specs::Reading::piece_number_at))]
+pub fn piece_number_of(bytes: &[u8]) -> Result<(PieceNumber, &[u8]), ReadFault>
+    ensures { Gives (λ x. (x.0, x.1.now)) result (piece_number_at bytes.now) }
+{
+    let (message, rest) = u64_of(bytes)?;
+    let (index, rest) = u64_of(rest)?;
+    Ok((PieceNumber { message, index }, rest))
 }
 
 #[tactic(auto, unfolding(crate::specs::Reading::piece_at))]

@@ -1,9 +1,10 @@
 //! Commands and responses, each put behind what is there.
 ghost use Rattle.std.specs.Prelude.{◌≡◌, ◌++◌, OnOk};
-ghost use Rattle.cq_frames.specs.Layout.{command, party, response, standing};
+ghost use Rattle.cq_frames.specs.Layout.{command, party, piece_number, response, standing};
 ghost use Rattle.cq_wire.specs.Layout.{text};
 
 use crate::command::Command;
+use crate::number::PieceNumber;
 use crate::piece::Piece;
 use crate::response::{Response, Standing};
 use cq_base::{NoMemory, Party};
@@ -22,6 +23,15 @@ fn put_party(out: &mut Writer, value: Party) -> Result<(), NoMemory>
             out.put_u32(id.get())
         }
     }
+}
+
+#[tactic(auto, unfolding(crate::specs::Layout::piece_number))]
+fn put_number(out: &mut Writer, value: PieceNumber) -> Result<(), NoMemory>
+    ensures ok { OnOk result (out.new.value ≡ out.old.value ++ piece_number value) }
+    ensures before { out.new.before ≡ out.old.before }
+{
+    out.put_u64(value.message)?;
+    out.put_u64(value.index)
 }
 
 fn put_piece(out: &mut Writer, value: &Piece) -> Result<(), NoMemory>
@@ -53,7 +63,7 @@ pub fn put_command(out: &mut Writer, value: &Command) -> Result<(), NoMemory>
         } => {
             out.put(&[2])?;
             put_party(out, *from)?;
-            out.put_u64(*number)?;
+            put_number(out, *number)?;
             put_piece(out, piece)
         }
         Command::Detect { server } => {
@@ -102,7 +112,7 @@ pub fn put_response(out: &mut Writer, value: &Response) -> Result<(), NoMemory>
         Response::Put { to, number, piece } => {
             out.put(&[0])?;
             put_party(out, *to)?;
-            out.put_u64(*number)?;
+            put_number(out, *number)?;
             put_piece(out, piece)
         }
         Response::Refused { code } => {

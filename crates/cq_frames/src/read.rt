@@ -1,6 +1,7 @@
 //! Whole commands and responses, from all of the bytes.
-ghost use Rattle.std.specs.Prelude.{◌≡◌, IfOk, Ok};
+ghost use Rattle.std.specs.Prelude.{◌≡◌, IfOk, Ok, true, false};
 ghost use Rattle.cq_frames.specs.declared.command.Command as rust_command;
+ghost use Rattle.cq_frames.specs.declared.command.Command.TheVariants.{Save};
 ghost use Rattle.cq_frames.specs.declared.response.Response as rust_response;
 ghost use Rattle.cq_frames.specs.Layout.{command, response};
 ghost use Rattle.cq_frames.specs.Limits.{IsCommand, IsResponse};
@@ -55,6 +56,18 @@ pub fn read_command(alloc: Global, bytes: &[u8]) -> Result<Command, ReadFault>
     ensures exact { Gives (λ x. x) result (whole_at command_at bytes.now) }
 {
     whole_command(alloc, bytes)
+}
+
+/// Whether the bytes of a frame are those of `Save`, without reading them as any other command: O(1).
+#[tactic(auto, unfolding(crate::specs::Layout::command, cq_wire::specs::Layout::whole))]
+pub fn is_save(bytes: &[u8]) -> bool
+    ensures yes { result ≡ true → bytes.now ≡ whole command Save }
+    ensures no { result ≡ false → bytes.now ≡ whole command Save → ⊥ }
+{
+    match bytes {
+        [version, kind] => *version == VERSION && *kind == 7,
+        _ => false,
+    }
 }
 
 #[tactic(auto, unfolding(cq_wire::specs::Reading::all_of))]

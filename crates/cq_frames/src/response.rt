@@ -1,10 +1,14 @@
 //! What a process tells its host.
+use crate::number::PieceNumber;
 use crate::piece::Piece;
 use cq_base::{Moment, Party};
 
 /// The number under which a command is refused that means nothing to the process, whatever it keeps: a detection or a join at a
 /// server, a request, a query or a copy of the store at the master.
 pub const NOT_HERE: u32 = 47;
+
+/// The number under which a command is refused for which there is no memory: it can be given again.
+pub const NO_MEMORY: u32 = 20;
 
 /// Where a server stands.
 #[derive(Clone, Copy, Debug, PartialEq, Eq)]
@@ -26,10 +30,10 @@ pub struct Standing {
 /// What a process that keeps a server, or the master, of a chain tells its host.
 #[derive(Debug)]
 pub enum Response {
-    /// The next piece of the message of that number on the link to that party.
+    /// The piece of that number on the link to that party.
     Put {
         to: Party,
-        number: u64,
+        number: PieceNumber,
         piece: Piece,
     },
     /// The command was refused, by the fault of that number, and nothing happened.

@@ -3,7 +3,7 @@ ghost use Rattle.std.specs.Prelude.{◌≡◌};
 ghost use Rattle.cq_frames.specs.Reading.{done_at, put_at, refused_at, response_at, saved_at, standing_at, unread_at, waiting_at};
 ghost use Rattle.cq_wire.specs.Reading.{Gives};
 
-use crate::party::{party_of, piece_of};
+use crate::party::{party_of, piece_number_of, piece_of};
 use crate::response::{Response, Standing};
 use cq_wire::{ReadFault, WireFault, flag_of, moment_of, u32_of, u64_of};
 use std::alloc::Global;
@@ -40,7 +40,10 @@ fn put_of(alloc: Global, bytes: &[u8]) -> Result<(Response, &[u8]), ReadFault>
         Ok(read) => read,
         Err(fault) => return Err(fault),
     };
-    let (number, rest) = u64_of(rest)?;
+    let (number, rest) = match piece_number_of(rest) {
+        Ok(read) => read,
+        Err(fault) => return Err(fault),
+    };
     let (piece, rest) = match piece_of(alloc, rest) {
         Ok(read) => read,
         Err(fault) => return Err(fault),

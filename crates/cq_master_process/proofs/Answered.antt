@@ -6,7 +6,7 @@ use Rattle.cq_frames.specs.declared.command.Command.{Command}
 use Rattle.cq_frames.specs.declared.response.Response.TheVariants.{Refused, Unread}
 use Rattle.cq_frames.specs.Reading.{command_at}
 use Rattle.cq_master_process.specs.declared.process.MasterProcess.{MasterProcess}
-use Rattle.cq_master_process.specs.declared.process.TheConstants.{NO_MEMORY}
+use Rattle.cq_frames.specs.declared.response.TheConstants.{NO_MEMORY}
 use Rattle.cq_master_process.specs.Answering.{AnswersRead, told_behind}
 use Rattle.cq_master_process.specs.Links.{put_of}
 use Rattle.cq_master_process.specs.Refusing.{Refuses}

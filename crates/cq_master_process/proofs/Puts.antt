@@ -109,7 +109,7 @@ pub told-for : (p q : MasterProcess) (to : ℕ) (old new : List ℕ) → gone_of
 told-for p q to old new here unspent tells acts counts taken gone = record {
   messages = tells.message ∷ [];
   told = frame (response_of (sent_to to tells.message) (put_of p.links to + 1));
-  puts = puts-one p q to tells.message false here (acts tells.message tells.first) counts unspent (tells.fits, (tells.server, (omega arith, tells.short))) taken gone;
+  puts = puts-one p q to tells.message false here (acts tells.message tells.first) counts unspent (tells.fits, (tells.server, ((omega arith, omega arith), tells.short))) taken gone;
   bytes = tells.bytes;
 }
 

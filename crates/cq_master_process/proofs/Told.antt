@@ -12,6 +12,7 @@ use Rattle.cq_frames.specs.declared.response.Response.TheVariants.{Put}
 use Rattle.cq_master_process.specs.declared.telling.Putting.{Putting}
 use Rattle.cq_master_process.specs.declared.telling.Putting.TheVariants as what
 use Rattle.cq_master_process.specs.Cores.{piece_of}
+use Rattle.cq_master_process.specs.Putting.{only_piece}
 use Rattle.cq_master_process.specs.within.Telling.{IsFirstFor, OnIdle, OnNoMemory, OnNothing, OnPut, TellsFirst, WaitsFor}
 use Rattle.cq_process_frames.specs.Frames.{frame}
 use Rattle.cq_wire.specs.Limits.{IsServer}
@@ -73,7 +74,7 @@ waits-by x (m ∷ ms) h e = absurd cc
 pub first-waits : (core : rust_master.Master) (to : ℕ) (x : rust.Message) → IsFirstFor core to x → WaitsFor core to
 first-waits core to x first m outbox h = waits-by x (outbox (parties.Server to)) (first m outbox h)
 
-pub tells-first : (w : Putting) (core : rust_master.Master) (to number : ℕ) (old new : List ℕ) (x : rust.Message) → IsFirstFor core to x → OnPut w (new ≡ old ++ frame (Put (parties.Server to) number (piece_of x)))
+pub tells-first : (w : Putting) (core : rust_master.Master) (to number : ℕ) (old new : List ℕ) (x : rust.Message) → IsFirstFor core to x → OnPut w (new ≡ old ++ frame (Put (parties.Server to) (only_piece number) (piece_of x)))
     → OnPut w (IsMessage x × (IsServer to × (length (piece_of x) ≤ PIECE_LIMIT))) → OnPut w (TellsFirst core to number old new)
 tells-first what.Put core to number old new x first told fits = record { message = x; first = first; bytes = told; fits = fits.0; server = fits.1.0; short = fits.1.1 }
 tells-first what.Nothing core to number old new x first told fits = tt

@@ -7,7 +7,7 @@ use Rattle.cq_frames.specs.declared.command.Command.{Command}
 use Rattle.cq_frames.specs.declared.response.Response.TheVariants.{Refused, Unread, Waiting, Heard}
 use Rattle.cq_frames.specs.Reading.{command_at}
 use Rattle.cq_master_process.specs.declared.process.MasterProcess.{MasterProcess}
-use Rattle.cq_master_process.specs.declared.process.TheConstants.{NO_MEMORY}
+use Rattle.cq_frames.specs.declared.response.TheConstants.{NO_MEMORY}
 use Rattle.cq_master_process.specs.Links.{gone_of, put_of, taken_of}
 use Rattle.cq_master_process.specs.Refusing.{Refuses}
 use Rattle.cq_master_process.specs.Steps.{Does, Keeps}

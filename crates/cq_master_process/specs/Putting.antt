@@ -7,6 +7,7 @@ use Rattle.cq_chain.specs.Messages.{Message}
 use Rattle.cq_chain.specs.Stands.{drained}
 use Rattle.cq_chain_wire.specs.Limits.{IsMessage}
 use Rattle.cq_events.specs.Actions.{Action, Put}
+use Rattle.cq_frames.specs.declared.number.PieceNumber.{PieceNumber}
 use Rattle.cq_frames.specs.declared.response.Response.{Response}
 use Rattle.cq_frames.specs.declared.response.Response.TheVariants as responses
 use Rattle.cq_frames.specs.Limits.{IsResponse}
@@ -28,9 +29,13 @@ sent_to to message = record { to = to; message = message }
 abbrev pub action_of : Sent → Action
 action_of x = Put (parties.Server x.to) x.message
 
+-- the number of the only piece of the message of that number
+abbrev pub only_piece : ℕ → PieceNumber
+only_piece number = record { message = number; index = 0 }
+
 -- the response that tells of it, by its number
 abbrev pub response_of : Sent → ℕ → Response
-response_of x number = responses.Put (parties.Server x.to) number (piece_of x.message)
+response_of x number = responses.Put (parties.Server x.to) (only_piece number) (piece_of x.message)
 
 -- what is told of it: nothing, where the server is gone
 abbrev pub told_of : Bool → Sent → ℕ → List ℕ

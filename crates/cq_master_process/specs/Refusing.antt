@@ -10,9 +10,9 @@ use Rattle.cq_chain.specs.Stands.{MasterStandsFor}
 use Rattle.cq_chain_wire.specs.Reading.{message_at}
 use Rattle.cq_frames.specs.declared.command.Command.{Command}
 use Rattle.cq_frames.specs.declared.command.Command.TheVariants as commands
-use Rattle.cq_frames.specs.declared.response.TheConstants.{NOT_HERE}
+use Rattle.cq_frames.specs.declared.number.PieceNumber.{PieceNumber}
+use Rattle.cq_frames.specs.declared.response.TheConstants.{NO_MEMORY, NOT_HERE}
 use Rattle.cq_master_process.specs.declared.process.MasterProcess.{MasterProcess}
-use Rattle.cq_master_process.specs.declared.process.TheConstants.{NO_MEMORY}
 use Rattle.cq_master_process.specs.Steps.{is_in_turn}
 use Rattle.cq_process.specs.declared.incoming.TakeFault.TheVariants.{NotNext}
 use Rattle.cq_process.specs.Faults.{take_code}
@@ -27,13 +27,13 @@ pub record IsNoMessage (piece : List ℕ) (code : ℕ) : Type 0 where
   pub is : code ≡ wire_code fault
 
 -- Why a message of a server isn't taken. In its turn it is no message, or there is no memory for it.
-abbrev pub RefusesTake : MasterProcess → ℕ → ℕ → List ℕ → ℕ → Type 0
+abbrev pub RefusesTake : MasterProcess → ℕ → PieceNumber → List ℕ → ℕ → Type 0
 RefusesTake p from number piece code =
     ((is_in_turn p from number ≡ false) × (code ≡ take_code NotNext))
     ⊎ ((is_in_turn p from number ≡ true) × (IsNoMessage piece code ⊎ (code ≡ NO_MEMORY)))
 
 -- A message of another party means nothing here.
-abbrev pub RefusesFrom : MasterProcess → Party → ℕ → List ℕ → ℕ → Type 0
+abbrev pub RefusesFrom : MasterProcess → Party → PieceNumber → List ℕ → ℕ → Type 0
 RefusesFrom p parties.Master number piece code = code ≡ NOT_HERE
 RefusesFrom p parties.Clients number piece code = code ≡ NOT_HERE
 RefusesFrom p (parties.Server from) number piece code = RefusesTake p from number piece code

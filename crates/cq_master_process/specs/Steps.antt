@@ -1,5 +1,5 @@
 -- What a command makes the process do by itself, before its turns.
-use Rattle.std.specs.Prelude.{◌≡◌, ℕ, ◌+◌, ◌==◌, List, Bool, true, false, if◌then◌else◌}
+use Rattle.std.specs.Prelude.{◌≡◌, ℕ, ◌+◌, ◌==◌, ◌&&◌, List, Bool, true, false, if◌then◌else◌}
 use Rattle.cq_base.specs.declared.party.Party.{Party}
 use Rattle.cq_base.specs.declared.party.Party.TheVariants as parties
 use Rattle.cq_chain.specs.declared.message.Message as rust
@@ -8,6 +8,7 @@ use Rattle.cq_chain_wire.specs.Limits.{IsMessage}
 use Rattle.cq_events.specs.Actions.{Action, Took, Detected, Joined}
 use Rattle.cq_frames.specs.declared.command.Command.{Command}
 use Rattle.cq_frames.specs.declared.command.Command.TheVariants as commands
+use Rattle.cq_frames.specs.declared.number.PieceNumber.{PieceNumber}
 use Rattle.cq_master_process.specs.declared.process.MasterProcess.{MasterProcess}
 use Rattle.cq_master_process.specs.Cores.{Acts, piece_of}
 use Rattle.cq_master_process.specs.Links.{counted, gone_of, put_of, taken_of, with_one}
@@ -26,9 +27,10 @@ pub record Orders (action : Action) (p q : MasterProcess) : Type 0 where
   pub put : put_of q.links ≡ put_of p.links
   pub gone : gone_of q.links ≡ gone_of p.links
 
--- whether the message of that number is the next one of a server: it isn't gone, and the number is one above the last
-abbrev pub is_in_turn : MasterProcess → ℕ → ℕ → Bool
-is_in_turn p from number = if gone_of p.links from then false else number == taken_of p.links from + 1
+-- whether the piece of that number is the next one of a server: it isn't gone, and the piece is the first one of the message behind the
+-- last one
+abbrev pub is_in_turn : MasterProcess → ℕ → PieceNumber → Bool
+is_in_turn p from number = if gone_of p.links from then false else (number.index == 0) && (number.message == taken_of p.links from + 1)
 
 -- The core takes a message of a server, which counts.
 pub record TakesMessage (p q : MasterProcess) (from : ℕ) (x : rust.Message) : Type 0 where
@@ -38,7 +40,7 @@ pub record TakesMessage (p q : MasterProcess) (from : ℕ) (x : rust.Message) : 
   pub gone : gone_of q.links ≡ gone_of p.links
 
 -- The piece is a whole message, the next one of the server, and the core takes it.
-pub record Takes (p q : MasterProcess) (from number : ℕ) (piece : List ℕ) : Type 0 where
+pub record Takes (p q : MasterProcess) (from : ℕ) (number : PieceNumber) (piece : List ℕ) : Type 0 where
   pub in_turn : is_in_turn p from number ≡ true
   pub message : rust.Message
   pub fits : IsMessage message
@@ -53,7 +55,7 @@ pub record Forgets (p q : MasterProcess) (server : ℕ) : Type 0 where
   pub gone : gone_of q.links ≡ with_one (gone_of p.links) server
 
 -- It takes messages of servers alone.
-abbrev pub TakesFrom : MasterProcess → MasterProcess → Party → ℕ → List ℕ → Type 0
+abbrev pub TakesFrom : MasterProcess → MasterProcess → Party → PieceNumber → List ℕ → Type 0
 TakesFrom p q parties.Master number piece = ⊥
 TakesFrom p q parties.Clients number piece = ⊥
 TakesFrom p q (parties.Server from) number piece = Takes p q from number piece

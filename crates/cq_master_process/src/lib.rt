@@ -9,4 +9,4 @@ mod links;
 mod process;
 mod telling;
 
-pub use process::{ANSWER_ROOM, MasterProcess, NO_MEMORY, Unanswered};
+pub use process::{ANSWER_ROOM, MasterProcess, Unanswered};

@@ -1,11 +1,12 @@
 //! What is known of the links from and to all servers.
-ghost use Rattle.std.specs.Prelude.{◌≡◌, ℕ, ◌+◌, ◌==◌, ◌<◌, true, false, OnOk, OnErr};
+ghost use Rattle.std.specs.Prelude.{◌≡◌, ℕ, ◌+◌, ◌==◌, ◌&&◌, ◌<◌, true, false, OnOk, OnErr};
 ghost use Rattle.cq_master_process.specs.Links.{counted, gone_of, is_open, put_of, taken_of, with_one};
 ghost use Rattle.cq_master_process.specs.within.Writing.{Writes};
 ghost use Rattle.cq_process.specs.declared.outgoing.TheConstants.{LINK_LIMIT};
 
 use crate::link::Link;
 use cq_base::{NoMemory, ServerId};
+use cq_frames::PieceNumber;
 use indexmap::IndexMap;
 use std::alloc::Global;
 use std::marker::Model;
@@ -67,13 +68,14 @@ impl Links {
         self.link(id).is_gone
     }
 
-    /// Whether that number is one above that of the last message that was taken: O(1).
-    pub fn is_next(&self, id: ServerId, number: u64) -> bool
-        ensures is { result ≡ (number == taken_of self.now id + 1) }
+    /// Whether that piece is the first one of the message behind the last one that was taken: O(1).
+    pub fn is_next(&self, id: ServerId, number: PieceNumber) -> bool
+        ensures is { result ≡ ((number.index == 0) && (number.message == taken_of self.now id + 1)) }
         ensures room { result ≡ true → taken_of self.now id < LINK_LIMIT }
     {
         let last = self.link(id).taken;
-        0 < number && number - 1 == last
+        let PieceNumber { message, index } = number;
+        index == 0 && 0 < message && message - 1 == last
     }
 
     /// Makes room for what is known of that server: then a message of it is counted without memory.
@@ -96,7 +98,7 @@ impl Links {
         Ok(())
     }
 
-    /// That is known of that server now, for which there is room.
+    /// Sets what is known of that server, for which there is room.
     fn set(&mut self, id: ServerId, link: Link)
         requires { is_open self.old id ≡ true }
         ensures writes { Writes self.old self.new id link }

@@ -14,10 +14,8 @@ use crate::links::Links;
 pub use answer::ANSWER_ROOM;
 use cq_base::{ChainSize, NoMemory, ServerId};
 use cq_chain::Master;
+use cq_frames::PieceNumber;
 use std::alloc::Global;
-
-/// The number under which a command is refused for which there is no memory.
-pub const NO_MEMORY: u32 = 20;
 
 /// A message can't be told at all, and the process has to end. No message of a master is so long, or a snapshot, though the types
 /// of messages don't say so.
@@ -49,8 +47,8 @@ impl MasterProcess {
         }
     }
 
-    /// Whether the message of that number is the next one of that server: O(1).
-    fn is_in_turn(&self, from: ServerId, number: u64) -> bool
+    /// Whether that piece is the next one of that server, and a message's first: O(1).
+    fn is_in_turn(&self, from: ServerId, number: PieceNumber) -> bool
         ensures is { result ≡ is_in_turn self.now from number }
         ensures room { result ≡ true → taken_of self.now.links from < LINK_LIMIT }
     {

@@ -6,6 +6,7 @@ ghost use Rattle.cq_chain_wire.specs.Limits.{IsMessage, IsPlain};
 ghost use Rattle.cq_frames.specs.declared.piece.TheConstants.{PIECE_LIMIT};
 ghost use Rattle.cq_frames.specs.declared.response.Response.TheVariants as responses;
 ghost use Rattle.cq_master_process.specs.Cores.{piece_of};
+ghost use Rattle.cq_master_process.specs.Putting.{only_piece};
 ghost use Rattle.cq_master_process.specs.within.Telling.{IsEmptyFor, OnIdle, OnNoMemory, OnNothing, OnPut, TellsFirst, WaitsFor};
 ghost use Rattle.cq_process_frames.specs.Frames.{frame, front};
 ghost use Rattle.cq_wire.specs.Limits.{IsServer};
@@ -13,7 +14,7 @@ ghost use Rattle.cq_wire.specs.Limits.{IsServer};
 use cq_base::{Party, ServerId};
 use cq_chain::{Master, Message};
 use cq_chain_wire::{is_plain, message_fits, write_message};
-use cq_frames::PIECE_LIMIT;
+use cq_frames::{PIECE_LIMIT, PieceNumber};
 use cq_process_frames::{put_front, seal};
 use cq_wire::server_fits;
 
@@ -31,8 +32,8 @@ pub enum Putting {
 }
 
 /// Makes a frame of a message that stands behind its front, or cuts both off where it is too long.
-fn seal_or_cut(out: &mut Vec<u8>, start: usize, body: usize, number: u64) -> Putting
-    requires order { start + 16 ≤ body }
+fn seal_or_cut(out: &mut Vec<u8>, start: usize, body: usize, number: PieceNumber) -> Putting
+    requires order { start + 24 ≤ body }
     requires short { body ≤ start + 100 }
     requires within { body ≤ length out.old.items }
     ensures told { (old piece : List ℕ) (to : rust_party.Party) → out.old.items ≡ (old ++ front to) ++ piece → length old ≡ start
@@ -65,14 +66,20 @@ fn tell_behind(
     requires plain { IsPlain message.now }
     requires begins { start + length (front to.now) ≡ length out.old.items }
     ensures told { (old : List ℕ) → out.old.items ≡ old ++ front to.now
-        → OnPut result (out.new.items ≡ old ++ frame (responses.Put to.now number (piece_of message.now))) }
+        → OnPut result (out.new.items ≡ old ++ frame (responses.Put to.now (only_piece number) (piece_of message.now))) }
     ensures short { OnPut result (length (piece_of message.now) ≤ PIECE_LIMIT) }
     ensures cut { (old : List ℕ) → out.old.items ≡ old ++ front to.now → OnIdle result (out.new.items ≡ old) }
     ensures some { OnNothing result ⊥ }
 {
     let body = out.len();
     match write_message(out, message) {
-        Ok(()) => seal_or_cut(out, start, body, number),
+        Ok(()) => {
+            let number = PieceNumber {
+                message: number,
+                index: 0,
+            };
+            seal_or_cut(out, start, body, number)
+        }
         Err(_) => {
             out.truncate(start);
             Putting::NoMemory
@@ -82,7 +89,7 @@ fn tell_behind(
 
 /// Writes the message for that server behind the bytes, as a frame under that number. Where it isn't told the bytes are as before.
 fn tell_message(out: &mut Vec<u8>, to: ServerId, number: u64, message: &Message) -> Putting
-    ensures told { OnPut result (out.new.items ≡ out.old.items ++ frame (responses.Put (parties.Server to) number (piece_of message.now))) }
+    ensures told { OnPut result (out.new.items ≡ out.old.items ++ frame (responses.Put (parties.Server to) (only_piece number) (piece_of message.now))) }
     ensures fits { OnPut result (IsMessage message.now × (IsServer to × (length (piece_of message.now) ≤ PIECE_LIMIT))) }
     ensures same { OnIdle result (out.new.items ≡ out.old.items) }
     ensures some { OnNothing result ⊥ }

@@ -91,9 +91,9 @@ pub none-changes : {E : Type 0} (ends : List (Party × E)) (party : Party) → C
 none-changes ends party other differs = refl
 
 -- nothing came from a party whose end is new
-pub new-received : (old new : List (Party × Incoming)) (from : Party) (end : Incoming) → end_of old from ≡ None → Rewrites old new from (Some end) → end.taken ≡ 0 → end.next ≡ nothing → (party : Party) → received_from new party ≡ received_from old party
-new-received old new from end absent writes taken next party = elim (cases_Bool (same from party)) [
-  | inl e ↦ ap received (writes party ∙ ap (λ b. cond b (Some end) (end_of old party)) e) ∙ (λ i. record { taken = taken i; next = next i }) ∙ sym (ap received (ap (λ p. end_of old p) (sym (same-true from party e)) ∙ absent))
+pub new-received : (old new : List (Party × Incoming)) (from : Party) (end : Incoming) → end_of old from ≡ None → Rewrites old new from (Some end) → end.taken ≡ 0 → end.pieces ≡ 0 → end.next ≡ nothing → (party : Party) → received_from new party ≡ received_from old party
+new-received old new from end absent writes taken pieces next party = elim (cases_Bool (same from party)) [
+  | inl e ↦ ap received (writes party ∙ ap (λ b. cond b (Some end) (end_of old party)) e) ∙ (λ i. record { taken = taken i; pieces = pieces i; next = next i }) ∙ sym (ap received (ap (λ p. end_of old p) (sym (same-true from party e)) ∙ absent))
   | inr e ↦ ap received (writes party ∙ ap (λ b. cond b (Some end) (end_of old party)) e)
 ]
 

@@ -22,7 +22,7 @@ same-held : (before o : Option rust.Message) (m : rust.Message) → Stays before
 same-held before o m same is x was = let other = same x was in cc
 
 pub some-on : (a b : rust_server.Server) (to : Party) (before after : End) (o : Option rust.Message) (old new : List ℕ) (r : Result Written PutFault) → PassesFrom a b to before.held o → Stays before.held o
-    → OnPiece r (WritesSome (record { put = before.put; held = o; writer = before.writer }) after old new) → OnPiece r (WritesOn a b to before after old new)
+    → OnPiece r (WritesSome (record { put = before.put; pieces = before.pieces; held = o; writer = before.writer }) after old new) → OnPiece r (WritesOn a b to before after old new)
 some-on a b to before after o old new (Ok what.Nothing) passes same h = tt
 some-on a b to before after o old new (Ok (what.Message number)) passes same h = tt
 some-on a b to before after o old new (Err fault) passes same h = tt
@@ -35,7 +35,7 @@ some-on a b to before after o old new (Ok (what.Piece number)) passes same h = r
 }
 
 pub last-on : (a b : rust_server.Server) (to : Party) (before after : End) (o : Option rust.Message) (old new : List ℕ) (r : Result Written PutFault) → PassesFrom a b to before.held o → Stays before.held o
-    → OnMessage r (WritesLast (record { put = before.put; held = o; writer = before.writer }) after old new) → OnMessage r (PutsNext a b to before after old new)
+    → OnMessage r (WritesLast (record { put = before.put; pieces = before.pieces; held = o; writer = before.writer }) after old new) → OnMessage r (PutsNext a b to before after old new)
 last-on a b to before after o old new (Ok what.Nothing) passes same h = tt
 last-on a b to before after o old new (Ok (what.Piece number)) passes same h = tt
 last-on a b to before after o old new (Err fault) passes same h = tt
@@ -49,11 +49,11 @@ last-on a b to before after o old new (Ok (what.Message number)) passes same h =
   fresh = h.fresh;
 }
 
-idles : (a b : rust_server.Server) (to : Party) (before after : End) (o : Option rust.Message) → PassesFrom a b to before.held o → Stays before.held o → after ≡ record { put = before.put; held = o; writer = before.writer } → Idles a b to before after
+idles : (a b : rust_server.Server) (to : Party) (before after : End) (o : Option rust.Message) → PassesFrom a b to before.held o → Stays before.held o → after ≡ record { put = before.put; pieces = before.pieces; held = o; writer = before.writer } → Idles a b to before after
 idles a b to before after o passes same is = subst (Idles a b to before) (sym is) (record { writer = refl; same = same; kept = passes })
 
 pub none-on : (a b : rust_server.Server) (to : Party) (before after : End) (o : Option rust.Message) (r : Result Written PutFault) → PassesFrom a b to before.held o → Stays before.held o
-    → OnNone r (after ≡ record { put = before.put; held = o; writer = before.writer }) → OnNone r (Idles a b to before after)
+    → OnNone r (after ≡ record { put = before.put; pieces = before.pieces; held = o; writer = before.writer }) → OnNone r (Idles a b to before after)
 none-on a b to before after o (Ok what.Nothing) passes same h = idles a b to before after o passes same h
 none-on a b to before after o (Ok (what.Piece number)) passes same h = tt
 none-on a b to before after o (Ok (what.Message number)) passes same h = tt

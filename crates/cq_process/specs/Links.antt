@@ -1,5 +1,5 @@
 -- The ends of all links of a process, each found by its party.
-use Rattle.std.specs.Prelude.{◌≡◌, ℕ, ◌+◌, ◌≤◌, ◌<◌, List, [], Option, None, Some, Bool, true, false, if◌then◌else◌, Result, Ok, Err, OnOk, OnErr, IfErr}
+use Rattle.std.specs.Prelude.{◌≡◌, ℕ, ◌≤◌, List, [], Option, None, Some, Bool, true, false, if◌then◌else◌, Result, Ok, Err, OnOk, OnErr, IfErr}
 use Rattle.std.specs.List.{list_any}
 use Rattle.std.specs.Map.{lookup}
 use Rattle.cq_base.specs.declared.party.Party.{Party}
@@ -10,6 +10,7 @@ use Rattle.cq_chain.specs.Parties.{same}
 use Rattle.cq_chain.specs.Servers as states
 use Rattle.cq_chain.specs.Stands.{Keeps, StandsFor}
 use Rattle.cq_chain_wire.specs.declared.reader.Progress.{Progress}
+use Rattle.cq_frames.specs.declared.number.PieceNumber.{PieceNumber}
 use Rattle.cq_process.specs.declared.incoming.Incoming.{Incoming}
 use Rattle.cq_process.specs.declared.incoming.TakeFault.{TakeFault}
 use Rattle.cq_process.specs.declared.incoming.TakeFault.TheVariants.{NotNext}
@@ -20,9 +21,9 @@ use Rattle.cq_process.specs.declared.outgoing.PutFault.TheVariants as put_faults
 use Rattle.cq_process.specs.declared.outgoing.TheConstants.{LINK_LIMIT}
 use Rattle.cq_process.specs.declared.outgoing.Written.{Written}
 use Rattle.cq_process.specs.declared.outgoing.Written.TheVariants as written_as
-use Rattle.cq_process.specs.Outgoing.{End, IsFresh}
+use Rattle.cq_process.specs.Outgoing.{End, IsFresh, IsSpent}
 use Rattle.cq_process.specs.Putting.{Idles, IsNumbered, OnMessage, OnNone, OnPiece, PutsNext, StandsWith, Throws, WritesOn}
-use Rattle.cq_process.specs.Taking.{IsLeft, IsReadAs, IsRefusedFor, TakesNext, nothing, number_after, read_on}
+use Rattle.cq_process.specs.Taking.{IsLeft, IsReadAs, IsRefusedFor, TakesNext, is_next, nothing, number_after, pieces_after, read_on}
 
 -- the end of a party's link, if there is one
 abbrev pub end_of : {E : Type 0} → List (Party × E) → Party → Option E
@@ -42,15 +43,17 @@ IsGoneToo old new party = (other : Party) → is_gone new other ≡ (if same par
 
 -- ---- what comes in
 
--- What came from a party: the number of the last message that was taken, 0 before the first one, and what was read of the next.
+-- What came from a party: the number of the last message that was taken, 0 before the first one, and of the next one how many pieces
+-- were read, and what was read of them.
 pub record Received : Type 0 where
   pub taken : ℕ
+  pub pieces : ℕ
   pub next : Progress
 
 -- what an end has of it; nothing came where there is no end
 abbrev pub received : Option Incoming → Received
-received None = record { taken = 0; next = nothing }
-received (Some end) = record { taken = end.taken; next = end.next }
+received None = record { taken = 0; pieces = 0; next = nothing }
+received (Some end) = record { taken = end.taken; pieces = end.pieces; next = end.next }
 
 -- what came from a party
 abbrev pub received_from : List (Party × Incoming) → Party → Received
@@ -58,15 +61,16 @@ received_from ends party = received (end_of ends party)
 
 -- what was read of the next message is let go
 abbrev pub LetsGo : Received → Received → Type 0
-LetsGo before after = after ≡ record { taken = before.taken; next = nothing }
+LetsGo before after = after ≡ record { taken = before.taken; pieces = 0; next = nothing }
 
--- What a call does with a piece of the message of that number, by what came before it and behind it.
-pub record TakesPiece (before after : Received) (old new : rust_server.Server) (from : Party) (number : ℕ) (piece : List ℕ) (result : Result Taken TakeFault) : Type 0 where
-  -- a message out of turn is refused, and only such a one
-  pub out_of_turn : (number ≡ before.taken + 1 → ⊥) → result ≡ Err NotNext
-  pub in_turn : number ≡ before.taken + 1 → result ≡ Err NotNext → ⊥
+-- What a call does with the piece of that number, by what came before it and behind it.
+pub record TakesPiece (before after : Received) (old new : rust_server.Server) (from : Party) (number : PieceNumber) (piece : List ℕ) (result : Result Taken TakeFault) : Type 0 where
+  -- a piece out of turn is refused, and only such a one
+  pub out_of_turn : is_next number before.taken before.pieces ≡ false → result ≡ Err NotNext
+  pub in_turn : is_next number before.taken before.pieces ≡ true → result ≡ Err NotNext → ⊥
   pub read : IsReadAs result (read_on piece before.next)
   pub counted : after.taken ≡ number_after result before.taken
+  pub pieces : after.pieces ≡ pieces_after result before.pieces
   pub left : IsLeft result before.next (read_on piece before.next) after.next
   pub took : result ≡ Ok taken_as.Message → TakesNext (read_on piece before.next) old new from
   pub idle : (result ≡ Ok taken_as.Message → ⊥) → Keeps old new
@@ -86,6 +90,7 @@ held_by ends party = held_at (end_of ends party)
 -- Nothing was put on the link.
 pub record IsNew (end : End) : Type 0 where
   pub put : end.put ≡ 0
+  pub pieces : end.pieces ≡ 0
   pub held : end.held ≡ None
   pub fresh : IsFresh end.writer
 
@@ -97,9 +102,9 @@ IsOpened (Some before) (Some after) = after ≡ before
 
 -- What a call writes of the first message for a party, by the end before it and behind it.
 pub record PutsPiece (before after : End) (a b : rust_server.Server) (to : Party) (old new : List ℕ) (result : Result Written PutFault) : Type 0 where
-  pub spent : LINK_LIMIT ≤ before.put → result ≡ Err put_faults.NumbersSpent
-  pub unspent : before.put < LINK_LIMIT → result ≡ Err put_faults.NumbersSpent → ⊥
-  pub numbers : IsNumbered result before.put after.put
+  pub spent : IsSpent before → result ≡ Err put_faults.NumbersSpent
+  pub unspent : (IsSpent before → ⊥) → result ≡ Err put_faults.NumbersSpent → ⊥
+  pub numbers : IsNumbered result before after
   pub some : OnPiece result (WritesOn a b to before after old new)
   pub last : OnMessage result (PutsNext a b to before after old new)
   pub idle : OnNone result (Idles a b to before after)

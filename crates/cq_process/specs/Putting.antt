@@ -7,9 +7,11 @@ use Rattle.cq_chain.specs.Messages as messages
 use Rattle.cq_chain.specs.Parties.{same}
 use Rattle.cq_chain.specs.Servers as states
 use Rattle.cq_chain_wire.specs.declared.writer.MessageWriter.{MessageWriter}
+use Rattle.cq_chain_wire.specs.Laws.{IsSound}
 use Rattle.cq_chain_wire.specs.Pieces.{IsNextPiece}
 use Rattle.cq_events.specs.Actions.{Put, StandsAs, Keeps}
 use Rattle.cq_events.specs.Acts.{Acts, ServerActs}
+use Rattle.cq_frames.specs.declared.number.PieceNumber.{PieceNumber}
 use Rattle.cq_process.specs.declared.outgoing.PutFault.{PutFault}
 use Rattle.cq_process.specs.declared.outgoing.Written.{Written}
 use Rattle.cq_process.specs.declared.outgoing.Written.TheVariants as what
@@ -23,11 +25,13 @@ with_back back to o p = if same p to then o else back p
 abbrev pub Passes : rust_server.Server → rust_server.Server → (Party → Option rust.Message) → Party → Option rust.Message → Type 0
 Passes old new back to held = Keeps StandsAs (record { core = old; back = back }) (record { core = new; back = with_back back to held })
 
--- A piece of the message that is held is written behind the bytes: the next one from where the writer was.
+-- A piece of the message that is held is written behind the bytes: the next one from where the writer was. The message is one whose
+-- pieces are read as just it.
 pub record WritesPiece (message : rust.Message) (before after : MessageWriter) (is_last : Bool) (old new : List ℕ) : Type 0 where
   pub text : List ℕ
   pub bytes : new ≡ old ++ text
   pub piece : IsNextPiece message before after text
+  pub sound : IsSound message
   pub last : after.is_done ≡ is_last
 
 -- A piece is written and more are left of the message, which is held.
@@ -108,9 +112,18 @@ OnNone (Ok (what.Piece number)) holds = ⊤
 OnNone (Ok (what.Message number)) holds = ⊤
 OnNone (Err fault) holds = holds
 
--- The number that is told is one above that of the last message that was put, and counts with the message's last piece.
-abbrev pub IsNumbered : Result Written PutFault → ℕ → ℕ → Type 0
-IsNumbered (Ok what.Nothing) before after = after ≡ before
-IsNumbered (Ok (what.Piece number)) before after = (number ≡ before + 1) × (after ≡ before)
-IsNumbered (Ok (what.Message number)) before after = (number ≡ before + 1) × (after ≡ number)
-IsNumbered (Err fault) before after = after ≡ before
+-- the number of the next piece
+abbrev pub number_next : End → PieceNumber
+number_next end = record { message = end.put + 1; index = end.pieces }
+
+-- so many messages were put, and so many pieces of the next one were written
+abbrev pub IsCounted : ℕ → ℕ → End → Type 0
+IsCounted put pieces after = (after.put ≡ put) × (after.pieces ≡ pieces)
+
+-- The number that is told is the next piece's: its message is one above the last one that was put, and its index is how many pieces of
+-- it were written. The message counts with its last piece.
+abbrev pub IsNumbered : Result Written PutFault → End → End → Type 0
+IsNumbered (Ok what.Nothing) before after = IsCounted before.put before.pieces after
+IsNumbered (Ok (what.Piece number)) before after = (number ≡ number_next before) × IsCounted before.put (before.pieces + 1) after
+IsNumbered (Ok (what.Message number)) before after = (number ≡ number_next before) × IsCounted (before.put + 1) 0 after
+IsNumbered (Err fault) before after = IsCounted before.put before.pieces after

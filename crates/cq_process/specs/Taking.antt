@@ -1,5 +1,5 @@
 -- What a piece of a message makes of what was read of it, and what a core does with the message.
-use Rattle.std.specs.Prelude.{◌≡◌, ℕ, ◌+◌, List, Option, None, Result, Ok, Err, ⊤}
+use Rattle.std.specs.Prelude.{◌≡◌, ℕ, ◌+◌, ◌==◌, ◌&&◌, Bool, nat_lt, List, Option, None, Result, Ok, Err, ⊤}
 use Rattle.cq_base.specs.declared.party.Party.{Party}
 use Rattle.cq_chain.specs.declared.message.Message as rust
 use Rattle.cq_chain.specs.declared.server.Server as rust_server
@@ -13,13 +13,19 @@ use Rattle.cq_chain_wire.specs.declared.reader.Progress.TheVariants.{More, Whole
 use Rattle.cq_chain_wire.specs.Feeding.{piece_fed}
 use Rattle.cq_events.specs.Actions.{Took}
 use Rattle.cq_events.specs.Acts.{Acts}
+use Rattle.cq_frames.specs.declared.number.PieceNumber.{PieceNumber}
 use Rattle.cq_process.specs.declared.incoming.TakeFault.{TakeFault}
 use Rattle.cq_process.specs.declared.incoming.TakeFault.TheVariants as faults
 use Rattle.cq_process.specs.declared.incoming.Taken.{Taken}
 use Rattle.cq_process.specs.declared.incoming.Taken.TheVariants as what
+use Rattle.cq_process.specs.declared.outgoing.TheConstants.{LINK_LIMIT}
 use Rattle.cq_store_wire.specs.declared.build.State.{State}
 use Rattle.cq_wire.specs.declared.fault.WireFault.{WireFault}
 use Rattle.cq_wire.specs.Reading.{Fails}
+
+-- The piece is the next one: of the message behind the last one that was taken, the one behind those that were read of it.
+abbrev pub is_next : PieceNumber → ℕ → ℕ → Bool
+is_next number taken pieces = (number.message == taken + 1) && ((number.index == pieces) && nat_lt number.index LINK_LIMIT)
 
 -- nothing of a message was read
 abbrev pub nothing : Progress
@@ -53,6 +59,14 @@ abbrev pub number_after : Result Taken TakeFault → ℕ → ℕ
 number_after (Ok what.Piece) number = number
 number_after (Ok what.Message) number = number + 1
 number_after (Err fault) number = number
+
+-- how many pieces were read of the next message, by how many they were before the call
+abbrev pub pieces_after : Result Taken TakeFault → ℕ → ℕ
+pieces_after (Ok what.Piece) pieces = pieces + 1
+pieces_after (Ok what.Message) pieces = 0
+pieces_after (Err faults.NotNext) pieces = pieces
+pieces_after (Err (faults.Unread fault)) pieces = 0
+pieces_after (Err (faults.Refused fault)) pieces = pieces
 
 -- What is left of the next message behind a call: what was there or what was read, or nothing.
 abbrev pub IsLeft : Result Taken TakeFault → Progress → Result Progress WireFault → Progress → Type 0

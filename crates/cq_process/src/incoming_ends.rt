@@ -1,11 +1,13 @@
 //! The ends of the links from all parties.
-ghost use Rattle.std.specs.Prelude.{◌≡◌, ◌+◌, ◌==◌, is_some, true, None, OnOk, OnErr};
+ghost use Rattle.std.specs.Prelude.{◌≡◌, is_some, true, None, OnOk, OnErr};
 ghost use Rattle.cq_base.specs.declared.party.Party as rust_party;
 ghost use Rattle.cq_process.specs.Links.{ChangesOnly, LetsGo, TakesPiece, end_of, received_from};
+ghost use Rattle.cq_process.specs.Taking.{is_next};
 
-use crate::incoming::{Incoming, TakeFault, Taken};
+use crate::incoming::{Incoming, TakeFault, Taken, is_behind};
 use cq_base::{NoMemory, Party};
 use cq_chain::Server;
+use cq_frames::PieceNumber;
 use indexmap::IndexMap;
 use std::alloc::Global;
 use std::marker::Model;
@@ -36,13 +38,13 @@ impl IncomingEnds {
         }
     }
 
-    /// Whether that number is one above that of the last message that was taken from the party: O(1).
-    pub fn is_next(&self, from: &Party, number: u64) -> bool
-        ensures { result ≡ (number == (received_from self.now from.now).taken + 1) }
+    /// Whether that is the next piece of the party: O(1).
+    pub fn is_next(&self, from: &Party, number: PieceNumber) -> bool
+        ensures { result ≡ is_next number (received_from self.now from.now).taken (received_from self.now from.now).pieces }
     {
         match self.ends.get(from) {
             Some(end) => end.is_next(number),
-            None => number == 1,
+            None => is_behind(number, 0, 0),
         }
     }
 
@@ -65,7 +67,7 @@ impl IncomingEnds {
         &mut self,
         core: &mut Server,
         from: Party,
-        number: u64,
+        number: PieceNumber,
         piece: &[u8],
     ) -> Result<Taken, TakeFault>
         requires { is_some (end_of self.old from) ≡ true }

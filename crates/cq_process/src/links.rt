@@ -13,6 +13,7 @@ use crate::outgoing::{PutFault, Written};
 use crate::outgoing_ends::OutgoingEnds;
 use cq_base::{NoMemory, Party, ServerId};
 use cq_chain::Server;
+use cq_frames::PieceNumber;
 use cq_wire::ReadFault;
 use indexmap::IndexSet;
 use std::alloc::Global;
@@ -75,8 +76,8 @@ impl Links {
         self.outgoing.open(self.alloc, to)
     }
 
-    /// A piece of the message of that number comes from the party, as `Incoming::take` says. From a party that is gone nothing is
-    /// the next message any more. The first piece of a party takes memory for its end: where there is none, that is `Unread`, and
+    /// The piece of that number comes from the party, as `Incoming::take` says. From a party that is gone nothing is the next piece
+    /// any more. The first piece of a party takes memory for its end: where there is none, that is `Unread`, and
     /// nothing came.
     ///
     /// O(bytes), expected, and with the last piece what `Server::take_owned` takes.
@@ -84,7 +85,7 @@ impl Links {
         &mut self,
         core: &mut Server,
         from: Party,
-        number: u64,
+        number: PieceNumber,
         piece: &[u8],
     ) -> Result<Taken, TakeFault>
         ensures takes { is_gone self.old.gone.keys from ≡ false

@@ -9,25 +9,27 @@ ghost use Rattle.cq_process.specs.declared.outgoing.TheConstants.{LINK_LIMIT};
 ghost use Rattle.cq_process.specs.declared.outgoing.PutFault.TheVariants as faults;
 ghost use Rattle.cq_process.specs.declared.outgoing.Written.TheVariants as what;
 ghost use Rattle.cq_process.specs.Faults.{put_code};
-ghost use Rattle.cq_process.specs.Outgoing.{GoesOn, IsFresh};
+ghost use Rattle.cq_process.specs.Outgoing.{AreSound, GoesOn, IsFresh, IsSpent};
 ghost use Rattle.cq_process.specs.Putting.{Idles, IsNumbered, OnMessage, OnNone, OnPiece, Passes, PutsNext, StandsWith, Throws, WritesLast, WritesOn, WritesSome};
 
 use cq_base::Party;
 use cq_chain::{Message, Server};
-use cq_chain_wire::MessageWriter;
+use cq_chain_wire::{MessageWriter, message_holds};
+use cq_frames::PieceNumber;
 use std::alloc::Global;
 use std::marker::Model;
 use thiserror::Error;
 
-/// The largest number of a message on a link.
+/// The largest number of a message on a link, and the most pieces of a message.
 pub const LINK_LIMIT: u64 = u64::MAX;
 
-/// The end of a link to one party. It has the number of the last message that was put, and the message that is being written,
-/// if there is one: that left the core's outbox with its first piece, and is put with its last.
+/// The end of a link to one party. It has the number of the last message that was put, and the message that is being written, if
+/// there is one, with how many pieces of it were: it left the core's outbox with its first piece, and is put with its last.
 #[derive(Drop)]
 pub struct Outgoing {
     alloc: Global,
     put: u64,
+    pieces: u64,
     held: Option<Message>,
     writer: MessageWriter,
 }
@@ -37,7 +39,7 @@ impl Model for Outgoing {
 
     ghost Value = { End };
 
-    ghost view = { λ o. record { put = o.put; held = o.held; writer = o.writer } };
+    ghost view = { λ o. record { put = o.put; pieces = o.pieces; held = o.held; writer = o.writer } };
 
     ghost invariant = { λ o. GoesOn o.held o.writer };
 }
@@ -47,10 +49,10 @@ impl Model for Outgoing {
 pub enum Written {
     /// Nothing: no message waits.
     Nothing,
-    /// A piece of the message of that number, of which more are left.
-    Piece { number: u64 },
-    /// The last piece of the message of that number, which is put.
-    Message { number: u64 },
+    /// The piece of that number, and more are left of its message.
+    Piece { number: PieceNumber },
+    /// The piece of that number, the last one of its message, which is put.
+    Message { number: PieceNumber },
 }
 
 /// Why nothing was written.
@@ -74,8 +76,27 @@ impl PutFault {
     }
 }
 
+/// The first message that waits for the party leaves the core's outbox.
+fn draw(core: &mut Server, to: Party) -> Option<Message>
+    ensures passes { (back : rust_party.Party → Option rust_message.Message) → back to ≡ None
+        → Passes core.old core.new back to result }
+    ensures empty { result ≡ None → (s : states.Server) (outbox : rust_party.Party → List sent.Message) → StandsFor core.old s outbox
+        → outbox to ≡ [] }
+    ensures sound { AreSound result }
+{
+    match core.put(to) {
+        Some(message) => {
+            message_holds(&message);
+            Some(message)
+        }
+        None => None,
+    }
+}
+
 /// The message that is held, or else the first one that waits for the party, which leaves the core's outbox.
 fn first_of(core: &mut Server, to: Party, held: Option<Message>) -> Option<Message>
+    requires sound { AreSound held }
+    ensures sound { AreSound result }
     ensures passes { (back : rust_party.Party → Option rust_message.Message) → back to ≡ held
         → Passes core.old core.new back to result }
     ensures same { (x : rust_message.Message) → held ≡ Some x → result ≡ Some x }
@@ -85,7 +106,7 @@ fn first_of(core: &mut Server, to: Party, held: Option<Message>) -> Option<Messa
 {
     match held {
         Some(message) => Some(message),
-        None => core.put(to),
+        None => draw(core, to),
     }
 }
 
@@ -93,12 +114,14 @@ impl Outgoing {
     /// Nothing was put. It keeps the allocator.
     pub fn new(alloc: Global) -> Outgoing
         ensures number { result.put ≡ 0 }
+        ensures pieces { result.pieces ≡ 0 }
         ensures held { result.held ≡ None }
         ensures begins { IsFresh result.writer }
     {
         Outgoing {
             alloc,
             put: 0,
+            pieces: 0,
             held: None,
             writer: MessageWriter::new(alloc),
         }
@@ -118,8 +141,8 @@ impl Outgoing {
         self.held.is_some()
     }
 
-    /// What holds of each end: a piece is left of the message that is held, and where none is, the writer is at its start. It does
-    /// nothing.
+    /// What holds of each end: a piece is left of the message that is held, whose pieces are read as just it; and where none is held, the
+    /// writer is at its start. It does nothing.
     pub fn goes_on(&self)
         ensures { GoesOn self.now.held self.now.writer }
     {
@@ -128,9 +151,10 @@ impl Outgoing {
 
     /// Writes the next piece of the message that is held, if one is.
     fn write(&mut self, bytes: &mut Vec<u8>, enough: usize) -> Result<Written, PutFault>
-        requires { self.old.put < LINK_LIMIT }
+        requires put { self.old.put < LINK_LIMIT }
+        requires pieces { self.old.pieces < LINK_LIMIT }
         ensures unspent { result ≡ Err faults.NumbersSpent → ⊥ }
-        ensures numbers { IsNumbered result self.old.put self.new.put }
+        ensures numbers { IsNumbered result self.old self.new }
         ensures some { OnPiece result (WritesSome self.old self.new bytes.old.items bytes.new.items) }
         ensures last { OnMessage result (WritesLast self.old self.new bytes.old.items bytes.new.items) }
         ensures idle { OnNone result (self.new ≡ self.old) }
@@ -144,22 +168,27 @@ impl Outgoing {
         if self.writer.next(message, bytes, enough).is_err() {
             return Err(PutFault::NoMemory);
         }
+        let number = PieceNumber {
+            message: self.put + 1,
+            index: self.pieces,
+        };
         if !self.writer.is_done() {
-            return Ok(Written::Piece {
-                number: self.put + 1,
-            });
+            self.pieces += 1;
+            return Ok(Written::Piece { number });
         }
         self.held = None;
         self.writer = MessageWriter::new(self.alloc);
         self.put += 1;
-        Ok(Written::Message { number: self.put })
+        self.pieces = 0;
+        Ok(Written::Message { number })
     }
 
     /// Writes the next piece of the first message for that party behind the bytes: of the one that is being written, or else of
     /// the first one that waits. A plain message is one piece; one of a snapshot has at most 2.7 MB more than `enough` bytes. The
     /// message is put with its last piece. The party has to be the same at each call.
     ///
-    /// After `NoMemory` no piece is written, and the same one is the next; `NumbersSpent` comes behind `LINK_LIMIT` messages.
+    /// After `NoMemory` no piece is written, and the same one is the next; `NumbersSpent` comes behind `LINK_LIMIT` messages, or
+    /// `LINK_LIMIT` pieces of one.
     /// O(bytes of the piece), and of a snapshot a search for each message: O(log messages).
     pub fn put_next(
         &mut self,
@@ -168,9 +197,9 @@ impl Outgoing {
         bytes: &mut Vec<u8>,
         enough: usize,
     ) -> Result<Written, PutFault>
-        ensures spent { LINK_LIMIT ≤ self.old.put → result ≡ Err faults.NumbersSpent }
-        ensures unspent { self.old.put < LINK_LIMIT → result ≡ Err faults.NumbersSpent → ⊥ }
-        ensures numbers { IsNumbered result self.old.put self.new.put }
+        ensures spent { IsSpent self.old → result ≡ Err faults.NumbersSpent }
+        ensures unspent { (IsSpent self.old → ⊥) → result ≡ Err faults.NumbersSpent → ⊥ }
+        ensures numbers { IsNumbered result self.old self.new }
         ensures some { OnPiece result (WritesOn core.old core.new to self.old self.new bytes.old.items bytes.new.items) }
         ensures last { OnMessage result (PutsNext core.old core.new to self.old self.new bytes.old.items bytes.new.items) }
         ensures idle { OnNone result (Idles core.old core.new to self.old self.new) }
@@ -179,7 +208,7 @@ impl Outgoing {
         ensures empty { result ≡ Ok what.Nothing → (s : states.Server) (outbox : rust_party.Party → List sent.Message) → StandsFor core.old s outbox
             → outbox to ≡ [] }
     {
-        if self.put == LINK_LIMIT {
+        if self.put == LINK_LIMIT || self.pieces == LINK_LIMIT {
             return Err(PutFault::NumbersSpent);
         }
         self.held = first_of(core, to, self.held.take());
@@ -211,6 +240,7 @@ impl Outgoing {
         self.held = None;
         self.writer = MessageWriter::new(self.alloc);
         self.put += 1;
+        self.pieces = 0;
     }
 
     /// The first message for that party is put and thrown away, if there is one.

@@ -57,7 +57,7 @@ rebased before after a b to old new (Ok (written_as.Piece number)) h = (
           message = h.puts.some.message;
           same = h.puts.some.same;
           held = h.puts.some.held;
-          written = record { text = h.puts.some.written.text; bytes = refl; piece = h.puts.some.written.piece; last = h.puts.some.written.last };
+          written = record { text = h.puts.some.written.text; bytes = refl; piece = h.puts.some.written.piece; sound = h.puts.some.written.sound; last = h.puts.some.written.last };
           kept = h.puts.some.kept;
         };
         last = tt;
@@ -87,7 +87,7 @@ rebased before after a b to old new (Ok (written_as.Message number)) h = (
           message = h.puts.last.message;
           same = h.puts.last.same;
           writer = h.puts.last.writer;
-          written = record { text = h.puts.last.written.text; bytes = refl; piece = h.puts.last.written.piece; last = h.puts.last.written.last };
+          written = record { text = h.puts.last.written.text; bytes = refl; piece = h.puts.last.written.piece; sound = h.puts.last.written.sound; last = h.puts.last.written.last };
           put = h.puts.last.put;
           held = h.puts.last.held;
           fresh = h.puts.last.fresh;

@@ -23,7 +23,7 @@ mark to = VERSION ∷ 0 ∷ party to
 
 -- what stands before a piece, with zeros for its lengths and its number
 abbrev pub front : Party → List ℕ
-front to = 0 ∷ 0 ∷ 0 ∷ 0 ∷ (mark to ++ 0 ∷ 0 ∷ 0 ∷ 0 ∷ 0 ∷ 0 ∷ 0 ∷ 0 ∷ 0 ∷ 0 ∷ 0 ∷ 0 ∷ [])
+front to = 0 ∷ 0 ∷ 0 ∷ 0 ∷ (mark to ++ 0 ∷ 0 ∷ 0 ∷ 0 ∷ 0 ∷ 0 ∷ 0 ∷ 0 ∷ 0 ∷ 0 ∷ 0 ∷ 0 ∷ 0 ∷ 0 ∷ 0 ∷ 0 ∷ 0 ∷ 0 ∷ 0 ∷ 0 ∷ [])
 
 -- what is told of a piece for a party: nothing, where none is written
 abbrev pub told_of : Party → Result Written PutFault → List ℕ → List ℕ

@@ -2,12 +2,13 @@
 ghost use Rattle.std.specs.Prelude.{◌≡◌, ◌+◌, ◌≤◌, ◌<◌, ◌^◌, ◌++◌, List, ℕ, length, OnOk, OnErr};
 ghost use Rattle.cq_base.specs.declared.party.Party as rust_party;
 ghost use Rattle.cq_frames.specs.declared.response.Response.TheVariants as responses;
+ghost use Rattle.cq_frames.specs.Layout.{piece_number};
 ghost use Rattle.cq_process_frames.specs.Frames.{frame, front, mark};
-ghost use Rattle.cq_wire.specs.Layout.{number32, number64};
+ghost use Rattle.cq_wire.specs.Layout.{number32};
 
-use crate::patch::{write_u32_at, write_u64_at};
+use crate::patch::{write_number_at, write_u32_at};
 use cq_base::{NoMemory, Party};
-use cq_frames::PIECE_LIMIT;
+use cq_frames::{PIECE_LIMIT, PieceNumber};
 use cq_wire::{VERSION, Writer};
 use std::mem;
 
@@ -36,7 +37,7 @@ fn put_all(out: &mut Writer, to: &Party) -> Result<(), NoMemory>
 {
     out.put(&[0, 0, 0, 0])?;
     put_mark(out, to)?;
-    out.put(&[0, 0, 0, 0, 0, 0, 0, 0, 0, 0, 0, 0])
+    out.put(&[0, 0, 0, 0, 0, 0, 0, 0, 0, 0, 0, 0, 0, 0, 0, 0, 0, 0, 0, 0])
 }
 
 /// Writes what stands before a piece for the party, with zeros where the lengths and the number will stand. After `NoMemory` the
@@ -56,22 +57,28 @@ pub fn put_front(out: &mut Vec<u8>, to: &Party) -> Result<(), NoMemory>
 }
 
 /// Writes the lengths and the number over their zeros, in a frame that begins at that place.
-fn fill(bytes: &mut [u8], place: usize, mark: usize, number: u64, count: u32)
-    requires room { place + mark + 16 ≤ length bytes.old }
-    requires fits { mark + 12 + count < 2 ^ 32 }
-    ensures { (a z m n k r : List ℕ) → bytes.old ≡ a ++ (z ++ (m ++ (n ++ (k ++ r)))) → length a ≡ place → length z ≡ 4 → length m ≡ mark
-        → length n ≡ 8 → length k ≡ 4 → bytes.new ≡ a ++ (number32 (mark + 12 + count) ++ (m ++ (number64 number ++ (number32 count ++ r)))) }
+fn fill(bytes: &mut [u8], place: usize, mark: usize, number: PieceNumber, count: u32)
+    requires room { place + mark + 24 ≤ length bytes.old }
+    requires fits { mark + 20 + count < 2 ^ 32 }
+    ensures { (a z m n i k r : List ℕ) → bytes.old ≡ a ++ (z ++ (m ++ (n ++ (i ++ (k ++ r))))) → length a ≡ place → length z ≡ 4
+        → length m ≡ mark → length n ≡ 8 → length i ≡ 8 → length k ≡ 4
+        → bytes.new ≡ a ++ (number32 (mark + 20 + count) ++ (m ++ (piece_number number ++ (number32 count ++ r)))) }
 {
-    let total = mark as u32 + 12 + count;
+    let total = mark as u32 + 20 + count;
     write_u32_at(bytes, place, total);
-    write_u64_at(bytes, place + 4 + mark, number);
-    write_u32_at(bytes, place + 12 + mark, count);
+    write_number_at(bytes, place + 4 + mark, number);
+    write_u32_at(bytes, place + 20 + mark, count);
 }
 
 /// Makes a frame of what `put_front` wrote from `start` on and of the piece that stands behind it, from `body` on. Where the piece is
 /// too long the bytes are as before. It takes no memory: O(1).
-pub fn seal(out: &mut Vec<u8>, start: usize, body: usize, number: u64) -> Result<(), TooLong>
-    requires order { start + 16 ≤ body }
+pub fn seal(
+    out: &mut Vec<u8>,
+    start: usize,
+    body: usize,
+    number: PieceNumber,
+) -> Result<(), TooLong>
+    requires order { start + 24 ≤ body }
     requires short { body ≤ start + 100 }
     requires within { body ≤ length out.old.items }
     ensures ok { (old piece : List ℕ) (to : rust_party.Party) → out.old.items ≡ (old ++ front to) ++ piece → length old ≡ start
@@ -85,7 +92,7 @@ pub fn seal(out: &mut Vec<u8>, start: usize, body: usize, number: u64) -> Result
     fill(
         out.as_mut_slice(),
         start,
-        body - start - 16,
+        body - start - 24,
         number,
         count as u32,
     );

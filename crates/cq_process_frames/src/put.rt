@@ -11,6 +11,7 @@ ghost use Rattle.cq_process_frames.specs.Frames.{PutsFrame, frame, front, told_o
 use crate::front::{put_front, seal};
 use cq_base::Party;
 use cq_chain::Server;
+use cq_frames::PieceNumber;
 use cq_process::{Links, PutFault, Written};
 use thiserror::Error;
 
@@ -27,7 +28,7 @@ pub enum Unput {
 }
 
 /// The number under which a piece was written, if one was.
-fn number_of(written: &Result<Written, PutFault>) -> Option<u64>
+fn number_of(written: &Result<Written, PutFault>) -> Option<PieceNumber>
     ensures some { (to : rust_party.Party) (piece : List ℕ) → IfSome result (λ number. told_of to written.now piece ≡ frame (responses.Put to number piece)) }
     ensures none { (to : rust_party.Party) (piece : List ℕ) → IfNone result (told_of to written.now piece ≡ []) }
 {
@@ -46,7 +47,7 @@ fn tell(
     start: usize,
     body: usize,
 ) -> Result<Result<Written, PutFault>, Unput>
-    requires order { start + 16 ≤ body }
+    requires order { start + 24 ≤ body }
     requires short { body ≤ start + 100 }
     requires within { body ≤ length out.old.items }
     ensures same { IfOk result (λ told. told ≡ written) }

@@ -1,17 +1,21 @@
 -- What is done of a frame, as deeds.
-use Rattle.std.proofs.Common.{◌≡◌, ℕ, ◌+◌, ◌==◌, ◌∙◌, ap, sym, refl, subst, if◌then◌else◌, List, [], ◌∷◌, ◌++◌, append_assoc, true, false, Option, Some, None, inl, inr, Result, Ok, Err, arith}
-use Rattle.std.specs.Prelude.{◌⊎◌}
+use Rattle.std.proofs.Common.{◌≡◌, ℕ, ◌+◌, ◌==◌, ◌&&◌, ◌∙◌, ap, sym, refl, subst, if◌then◌else◌, List, [], ◌∷◌, ◌++◌, append_assoc, true, false, Option, Some, None, inl, inr, Result, Ok, Err, arith}
+use Rattle.std.specs.Prelude.{◌⊎◌, nat_lt}
 use Rattle.std.specs.List.{AllByRecursion}
-use Rattle.std.proofs.lemmas.Bool.{cases_Bool, eqb-true, eq-eqb, true≢false}
+use Rattle.std.proofs.lemmas.Bool.{and_parts, cases_Bool, eqb-true, true≢false}
 use Rattle.cq_base.specs.declared.party.Party.{Party}
 use Rattle.cq_base.specs.declared.party.Party.TheVariants as parties
+use Rattle.cq_chain.specs.declared.fault.WorldFault.{WorldFault}
+use Rattle.cq_chain.specs.declared.fault.WorldFault.TheVariants as world_faults
 use Rattle.cq_chain.specs.declared.server.Server as rust_server
+use Rattle.cq_chain.specs.Faults as chain_faults
 use Rattle.cq_chain.specs.Stands as chain
 use Rattle.cq_chain_wire.specs.declared.reader.Progress.TheVariants.{More, Whole}
 use Rattle.cq_events.specs.Actions.{Action, Arrived, Asked}
 use Rattle.cq_events.proofs.Parties.{same-refl}
 use Rattle.cq_frames.specs.declared.command.Command.{Command}
 use Rattle.cq_frames.specs.declared.command.Command.TheVariants as commands
+use Rattle.cq_frames.specs.declared.number.PieceNumber.{PieceNumber}
 use Rattle.cq_frames.specs.declared.response.Response.{Response}
 use Rattle.cq_frames.specs.declared.response.Response.TheVariants as responses
 use Rattle.cq_frames.specs.Reading.{command_at}
@@ -19,14 +23,16 @@ use Rattle.cq_process.specs.declared.incoming.TakeFault.{TakeFault}
 use Rattle.cq_process.specs.declared.incoming.TakeFault.TheVariants as take_faults
 use Rattle.cq_process.specs.declared.incoming.Taken.{Taken}
 use Rattle.cq_process.specs.declared.incoming.Taken.TheVariants as taken_as
+use Rattle.cq_process.specs.declared.outgoing.TheConstants.{LINK_LIMIT}
 use Rattle.cq_process.specs.Faults.{take_code}
 use Rattle.cq_process.specs.Links.{Received, TakesPiece, end_of, is_gone, received_from}
+use Rattle.cq_process.specs.Taking.{is_next}
 use Rattle.cq_server_process.specs.Answers.{Answers, Beside, GoesAway, GoesOn, GoesWith, Happens, IsUnread, Leaves, Refuses, SendsMore, State, Takes, waiting}
 use Rattle.cq_server_process.specs.Turns.{at, frames}
 use Rattle.cq_wire.specs.declared.fault.ReadFault.{ReadFault}
 use Rattle.cq_wire.specs.declared.fault.ReadFault.TheVariants as read_faults
 use Rattle.cq_wire.specs.declared.fault.WireFault.{WireFault}
-use Rattle.cq_wire.specs.declared.fault.WireFault.TheVariants.{Truncated, BadTag, BadText, BadNumber, BytesLeft, OtherVersion}
+use Rattle.cq_wire.specs.declared.fault.WireFault.TheVariants.{BadNumber}
 use Rattle.cq_wire.specs.Faults.{wire_code}
 use Rattle.cq_wire.specs.Reading.{Fails, whole_at}
 use Rattle.cq_wire.proofs.Fronts.{ok_is}
@@ -34,7 +40,7 @@ use Rattle.cq_process_laws.specs.Deeds.{Acted, AllTo, IsInTurns, Came, Deed, Los
 use Rattle.cq_process_laws.specs.Laws.{AnswersAreActions}
 use Rattle.cq_process_laws.specs.Runs.{AreTold, PutsForNamed, BeginsWith, ComesOf, IsDone, IsRefusedWith, TellsNoPiece}
 use Rattle.cq_process_laws.proofs.Acting.{deeds-act, did-both, kept-from}
-use Rattle.cq_process_laws.proofs.Moments.{Did, DidAll, IsLetGo, IsOutOfTurn, IsOwn, Misses, Now, OnlyFrom, Rests, Stays, now, with_at}
+use Rattle.cq_process_laws.proofs.Moments.{Did, DidAll, IsLetGo, IsNext, IsOutOfTurn, IsOwn, Misses, Now, OnlyFrom, Rests, Stays, now, with_at}
 use Rattle.cq_process_laws.proofs.Turning.{AllMake, Makes, all-turn, makes-none, responses-both, rests-same, sent, thrown-from}
 
 -- What is done of a frame, by deeds from one state to the other.
@@ -64,14 +70,20 @@ stays-kept a b keeps outgoing incoming gone = record {
 
 -- ---- pieces that come
 
+-- a piece that is next
+next-is : (number : PieceNumber) (r : Received) → is_next number r.taken r.pieces ≡ true → IsNext number r
+next-is number r h = let both = and_parts (number.message == r.taken + 1) ((number.index == r.pieces) && nat_lt number.index LINK_LIMIT) h in
+    let index = and_parts (number.index == r.pieces) (nat_lt number.index LINK_LIMIT) both.1 in
+    (eqb-true number.message (r.taken + 1) both.0, eqb-true number.index r.pieces index.0)
+
 -- what isn't out of turn is in turn
-in-turn : (r after : Received) (a b : rust_server.Server) (from : Party) (number : ℕ) (piece : List ℕ) (result : Result Taken TakeFault) → TakesPiece r after a b from number piece result → (result ≡ Err take_faults.NotNext → ⊥) → number ≡ r.taken + 1
-in-turn r after a b from number piece result h other = elim (cases_Bool (number == r.taken + 1)) [
-  | inl same ↦ eqb-true number (r.taken + 1) same
-  | inr apart ↦ absurd (other (h.out_of_turn (λ is. true≢false (sym (eq-eqb number (r.taken + 1) is) ∙ apart))))
+in-turn : (r after : Received) (a b : rust_server.Server) (from : Party) (number : PieceNumber) (piece : List ℕ) (result : Result Taken TakeFault) → TakesPiece r after a b from number piece result → (result ≡ Err take_faults.NotNext → ⊥) → IsNext number r
+in-turn r after a b from number piece result h other = elim (cases_Bool (is_next number r.taken r.pieces)) [
+  | inl same ↦ next-is number r same
+  | inr apart ↦ absurd (other (h.out_of_turn apart))
 ]
 
-module _ (p q : State) (from : Party) (number : ℕ) (piece : List ℕ) where
+module _ (p q : State) (from : Party) (number : PieceNumber) (piece : List ℕ) where
   abbrev pub FirstOfTake : Type 0
   FirstOfTake = (first : List Deed) × (BeginsWith (commands.Take from number piece) first × (DidAll (now p) first (now q) × (responses_in first ≡ [])))
 
@@ -93,6 +105,7 @@ module _ (p q : State) (from : Party) (number : ℕ) (piece : List ℕ) where
               so_far = h.read.0;
               read = h.read.1;
               taken = h.counted;
+              pieces = h.pieces;
               left = ok_is (received_from q.links.incoming from).next (More h.read.0) (sym h.left ∙ h.read.1);
             },
             refl,
@@ -118,6 +131,7 @@ module _ (p q : State) (from : Party) (number : ℕ) (piece : List ℕ) where
                   next = in-turn (received_from p.links.incoming from) (received_from q.links.incoming from) p.core q.core from number piece (Ok taken_as.Message) h (λ is. absurd cc);
                   read = took.whole;
                   taken = h.counted;
+                  pieces = h.pieces;
                   left = h.left;
                 },
                 refl,
@@ -128,27 +142,31 @@ module _ (p q : State) (from : Party) (number : ℕ) (piece : List ℕ) where
         ),
       )
 
--- no bytes are refused for want of memory
-not-memory : (fault : WireFault) → wire_code fault ≡ 20 → ⊥
-not-memory Truncated h = omega (arith, h)
-not-memory BadTag h = omega (arith, h)
-not-memory BadText h = omega (arith, h)
-not-memory BadNumber h = omega (arith, h)
-not-memory BytesLeft h = omega (arith, h)
-not-memory OtherVersion h = omega (arith, h)
+-- no fault of the core has that number
+not-next : (fault : WorldFault) → chain_faults.code_of fault ≡ take_code take_faults.NotNext → ⊥
+not-next world_faults.NoSuchServer h = omega (arith, h)
+not-next world_faults.ServerDown h = omega (arith, h)
+not-next world_faults.LinkEmpty h = omega (arith, h)
+not-next world_faults.OutboxEmpty h = omega (arith, h)
+not-next world_faults.LastFull h = omega (arith, h)
+not-next world_faults.JoinPending h = omega (arith, h)
+not-next world_faults.IdUsed h = omega (arith, h)
+not-next world_faults.ChainFull h = omega (arith, h)
+not-next world_faults.NotDown h = omega (arith, h)
+not-next world_faults.NotHead h = omega (arith, h)
+not-next world_faults.HistoryFull h = omega (arith, h)
+not-next world_faults.NotTail h = omega (arith, h)
+not-next world_faults.NoMemory h = omega (arith, h)
 
 -- what a piece that is refused leaves
-missed-left : (before after : Received) (a b : rust_server.Server) (from : Party) (number : ℕ) (piece : List ℕ) (code : ℕ) (fault : TakeFault) → code ≡ take_code fault → TakesPiece before after a b from number piece (Err fault)
-    → IsOutOfTurn number code before after ⊎ ((number ≡ before.taken + 1) × IsLetGo before.next piece code after.next)
-missed-left before after a b from number piece code take_faults.NotNext is k = inl ((λ same. k.in_turn same refl), ((λ memory. omega (arith, is, memory)), k.left))
-missed-left before after a b from number piece code (take_faults.Unread read_faults.NoMemory) is k =
-    inr (in-turn before after a b from number piece (Err (take_faults.Unread read_faults.NoMemory)) k (λ same. absurd cc), inl (k.left, λ memory. omega (arith, is, memory)))
-missed-left before after a b from number piece code (take_faults.Unread (read_faults.Bad fault)) is k =
-    inr (in-turn before after a b from number piece (Err (take_faults.Unread (read_faults.Bad fault))) k (λ same. absurd cc), inl (k.left, λ memory. not-memory fault (sym is ∙ memory)))
+missed-left : (before after : Received) (a b : rust_server.Server) (from : Party) (number : PieceNumber) (piece : List ℕ) (code : ℕ) (fault : TakeFault) → code ≡ take_code fault → TakesPiece before after a b from number piece (Err fault)
+    → IsOutOfTurn code before after ⊎ (IsNext number before × IsLetGo before piece code after)
+missed-left before after a b from number piece code take_faults.NotNext is k = inl (is, (k.left, k.pieces))
+missed-left before after a b from number piece code (take_faults.Unread fault) is k = inr (in-turn before after a b from number piece (Err (take_faults.Unread fault)) k (λ same. absurd cc), inl (k.left, k.pieces))
 missed-left before after a b from number piece code (take_faults.Refused one) is k =
-    inr (in-turn before after a b from number piece (Err (take_faults.Refused one)) k (λ same. absurd cc), inr (k.read.0, (k.read.1, ok_is after.next (Whole k.read.0) (sym k.left ∙ k.read.1))))
+    inr (in-turn before after a b from number piece (Err (take_faults.Refused one)) k (λ same. absurd cc), inr ((λ same. not-next one (sym is ∙ same)), (k.read.0, (k.read.1, ok_is after.next (Whole k.read.0) (sym k.left ∙ k.read.1)))))
 
-piece-left : (p q : State) (from : Party) (number : ℕ) (piece : List ℕ) (code : ℕ) (fault : TakeFault) → code ≡ take_code fault → OnlyFrom from (now p) (now q)
+piece-left : (p q : State) (from : Party) (number : PieceNumber) (piece : List ℕ) (code : ℕ) (fault : TakeFault) → code ≡ take_code fault → OnlyFrom from (now p) (now q)
     → TakesPiece (received_from p.links.incoming from) (received_from q.links.incoming from) p.core q.core from number piece (Err fault) → Misses from number piece code (now p) (now q)
 piece-left p q from number piece code fault is only h = record {
   only = only;
@@ -157,7 +175,7 @@ piece-left p q from number piece code fault is only h = record {
   left = λ there. missed-left (received_from p.links.incoming from) (received_from q.links.incoming from) p.core q.core from number piece code fault is h;
 }
 
-pub left-missed : (p q : State) (from : Party) (number : ℕ) (piece : List ℕ) (code : ℕ) → Leaves from number piece code p q → Misses from number piece code (now p) (now q)
+pub left-missed : (p q : State) (from : Party) (number : PieceNumber) (piece : List ℕ) (code : ℕ) → Leaves from number piece code p q → Misses from number piece code (now p) (now q)
 left-missed p q from number piece code h = elim (cases_Bool (is_gone p.links.gone.keys from)) [
   | inl away ↦ gone away (h.thrown away)
   | inr lives ↦ piece-left p q from number piece code h.fault h.is only (h.lives lives)
@@ -199,7 +217,7 @@ beside-begun command action p q told none begins no_own own h = record {
   is = none;
 }
 
-takes-begun : (from : Party) (number : ℕ) (piece : List ℕ) (p q : State) (told : List Response) → told ≡ [] → Takes from number piece p q → Begun (commands.Take from number piece) p q told
+takes-begun : (from : Party) (number : PieceNumber) (piece : List ℕ) (p q : State) (told : List Response) → told ≡ [] → Takes from number piece p q → Begun (commands.Take from number piece) p q told
 takes-begun from number piece p q told none h =
     let first = piece-came p q from number piece h.taken (record { others = h.others; outgoing = h.outgoing; gone = ap (λ g. g.keys) h.gone }) h.lives h.takes in
     record {

@@ -1,6 +1,7 @@
 -- Pieces that go from one process to another.
-use Rattle.std.proofs.Common.{◌≡◌, ℕ, ◌+◌, ◌==◌, ◌∙◌, ap, sym, refl, subst, cond, List, [], ◌∷◌, ◌++◌, append_assoc, append-nil, drop, length, Bool, true, false, Option, Some, None, inl, inr, Result, Ok, Err, arith}
-use Rattle.std.proofs.lemmas.Bool.{true≢false}
+use Rattle.std.proofs.Common.{◌≡◌, ℕ, ◌+◌, ◌<◌, ◌==◌, ◌∙◌, ap, sym, refl, subst, cond, List, [], ◌∷◌, ◌++◌, append_assoc, append-nil, drop, length, Bool, true, false, Option, Some, None, inl, inr, Result, Ok, Err, arith}
+use Rattle.std.specs.Prelude.{⊤}
+use Rattle.std.proofs.lemmas.Bool.{eq-eqb, true≢false}
 use Rattle.cq_base.specs.Relations.{Among, IsPrefix}
 use Rattle.cq_chain.specs.declared.message.Message.{Message}
 use Rattle.cq_chain.specs.declared.message.Message.TheVariants as kinds
@@ -8,7 +9,6 @@ use Rattle.cq_chain_wire.specs.declared.reader.Progress.{Progress}
 use Rattle.cq_chain_wire.specs.declared.reader.Progress.TheVariants.{More, Whole}
 use Rattle.cq_chain_wire.specs.declared.writer.MessageWriter.{MessageWriter}
 use Rattle.cq_chain_wire.specs.Feeding.{all_fed, kind_fed, piece_fed}
-use Rattle.cq_chain_wire.specs.Laws.{IsSound}
 use Rattle.cq_chain_wire.specs.Pieces.{IsNextOfSnapshot, IsNextPiece, parts_left}
 use Rattle.cq_chain_wire.proofs.PieceLaws.{chunk-ok}
 use Rattle.cq_process.specs.Laws.{AreWritten}
@@ -20,8 +20,7 @@ use Rattle.cq_wire.specs.declared.fault.WireFault.{WireFault}
 use Rattle.cq_wire.specs.Reading.{◌>>=◌}
 use Rattle.cq_wire.proofs.Fronts.{ok_is}
 use Rattle.cq_process_laws.specs.Laws.{LinksHandOver}
-use Rattle.cq_process_laws.specs.Passing.{AreAllOf, AreFedAsTold, AreFirst, AreGoingOn, AreNext, AreWhole, IsFront, WasRead, WereRead, again, if_kept, kept_of, last_again, of_number, run_behind}
-use Rattle.cq_process_laws.proofs.Coming.{Tried}
+use Rattle.cq_process_laws.specs.Passing.{AreAllOf, AreAsTold, AreFirst, AreThere, AreWhole, IsFront, Numbered, WasRead, WereRead, number_at, of_message, placed}
 
 -- ---- pieces of which more are left
 
@@ -56,6 +55,57 @@ first-written : (m : Message) (a b c : MessageWriter) (texts : List (List ℕ)) 
 first-written m a b c [] last h next = (c, subst (λ w. IsNextPiece m w c last) (sym h) next, refl)
 first-written m a b c (x ∷ texts) last h next = (h.0, h.1, first-written m h.0 b c texts last h.3 next)
 
+-- ---- places
+
+-- what stands at no place isn't there
+placed-above : (index low : ℕ) (text : List ℕ) (texts : List (List ℕ)) → index < low → Among (index, text) (placed low texts) → ⊥
+placed-above index low text [] below h = h
+placed-above index low text (t ∷ texts) below (inl is) = let same = ap (λ (x : ℕ × List ℕ). x.0) is in omega (arith, below, same)
+placed-above index low text (t ∷ texts) below (inr h) = placed-above index (low + 1) text texts (omega (arith, below)) h
+
+-- these texts stand there, from that place on
+abbrev pub StandFrom : ℕ → List (List ℕ) → List (ℕ × List ℕ) → Type 0
+StandFrom index [] pieces = ⊤
+StandFrom index (text ∷ texts) pieces = Among (index, text) pieces × StandFrom (index + 1) texts pieces
+
+stand-behind : (index low : ℕ) (t : List ℕ) (texts : List (List ℕ)) (pieces : List (ℕ × List ℕ)) → low < index → StandFrom index texts ((low, t) ∷ pieces) → StandFrom index texts pieces
+stand-behind index low t [] pieces below h = tt
+stand-behind index low t (text ∷ texts) pieces below h = (here h.0, stand-behind (index + 1) low t texts pieces (omega (arith, below)) h.1) where
+  here : Among (index, text) ((low, t) ∷ pieces) → Among (index, text) pieces
+  here (inl is) = let same = ap (λ (x : ℕ × List ℕ). x.0) is in absurd (omega (arith, below, same))
+  here (inr k) = k
+
+-- where all of these stand at their places, they are the first ones of those
+first-of : (index : ℕ) (texts all : List (List ℕ)) → StandFrom index texts (placed index all) → IsPrefix texts all
+first-of index [] all h = (all, refl)
+first-of index (text ∷ texts) [] h = absurd h.0
+first-of index (text ∷ texts) (a ∷ all) h =
+    let rest = first-of (index + 1) texts all (stand-behind (index + 1) index a texts (placed (index + 1) all) (omega arith) h.1) in
+    (rest.0, ap (λ xs. a ∷ xs) rest.1 ∙ ap (λ x. x ∷ (texts ++ rest.0)) (sym (here h.0)))
+  where
+    here : Among (index, text) ((index, a) ∷ placed (index + 1) all) → text ≡ a
+    here (inl is) = ap (λ (x : ℕ × List ℕ). x.1) is
+    here (inr k) = absurd (placed-above index (index + 1) text all (omega arith) k)
+
+-- what was told of a message, as its pieces
+of-told : (k index : ℕ) (text : List ℕ) (told : List Numbered) → Among (number_at k index, text) told → Among (index, text) (of_message k told)
+of-told k index text [] h = h
+of-told k index text (x ∷ told) (inl is) =
+    subst (λ (y : Numbered). Among (index, text) (cond (k == y.0.message) ((y.0.index, y.1) ∷ of_message k told) (of_message k told))) is
+    (subst (λ t. Among (index, text) (cond t ((index, text) ∷ of_message k told) (of_message k told))) (sym (eq-eqb k k refl)) (inl refl))
+of-told k index text (x ∷ told) (inr h) = go (k == x.0.message) (of-told k index text told h) where
+  go : (t : Bool) → Among (index, text) (of_message k told) → Among (index, text) (cond t ((x.0.index, x.1) ∷ of_message k told) (of_message k told))
+  go true there = inr there
+  go false there = there
+
+all-stand : (k index : ℕ) (texts : List (List ℕ)) (told came : List Numbered) → AreAsTold told came → AreThere k index texts came → StandFrom index texts (of_message k told)
+all-stand k index [] told came as_told h = tt
+all-stand k index (text ∷ texts) told came as_told h = (of-told k index text told (as_told (number_at k index, text) h.0), all-stand k (index + 1) texts told came as_told h.1)
+
+-- the texts of which a message was read are the first ones that were told of it
+read-first : (k : ℕ) (m : Message) (told came : List Numbered) (was : WasRead k m came) (all : List (List ℕ)) → AreAsTold told came → of_message k told ≡ placed 0 all → IsPrefix was.texts all
+read-first k m told came was all as_told is = first-of 0 was.texts all (subst (StandFrom 0 was.texts) is (all-stand k 0 was.texts told came as_told was.there))
+
 -- ---- lists
 
 nil-no : {A : Type 0} (xs ys : List A) (y : A) → [] ≡ xs ++ y ∷ ys → ⊥
@@ -73,93 +123,47 @@ split (x ∷ fed) (y ∷ front) rest r last e =
     let more = split fed front rest r last (ap (drop 1) e) in
     (more.0, ap (λ zs. y ∷ zs) more.1 ∙ ap (λ z. z ∷ (fed ++ more.0)) (head-is y x (front ++ last ∷ []) (fed ++ r ∷ rest) e))
 
-among-front : {A : Type 0} (m : A) (xs ys : List A) → Among m xs → Among m (xs ++ ys)
-among-front m [] ys h = absurd h
-among-front m (x ∷ xs) ys (inl is) = inl is
-among-front m (x ∷ xs) ys (inr h) = inr (among-front m xs ys h)
-
 -- ---- one message
 
 -- what is read whole of the first pieces of a message is that message
-whole-read : (m other : Message) (told fed : List (List ℕ)) → IsSound m → AreAllOf m told → IsPrefix fed told → all_fed fed nothing ≡ Ok (Whole other) → other ≡ m
-whole-read m other told fed sound h prefix read = go prefix.0 prefix.1 where
-  go : (rest : List (List ℕ)) → told ≡ fed ++ rest → other ≡ m
-  go [] is = read-as-written m other h.start h.end fed sound h.fresh
-      (subst (λ texts. AreWritten m h.start texts h.end) (sym h.are ∙ is ∙ append-nil fed) (first-written m h.start h.mid h.end h.front h.last h.first h.next)) read
+whole-read : (m other : Message) (pieces : List (ℕ × List ℕ)) (fed : List (List ℕ)) (h : AreAllOf m pieces) → IsPrefix fed (h.front ++ h.last ∷ []) → all_fed fed nothing ≡ Ok (Whole other) → other ≡ m
+whole-read m other pieces fed h prefix read = go prefix.0 prefix.1 where
+  go : (rest : List (List ℕ)) → h.front ++ h.last ∷ [] ≡ fed ++ rest → other ≡ m
+  go [] is = read-as-written m other h.start h.end fed h.sound h.fresh
+      (subst (λ texts. AreWritten m h.start texts h.end) (is ∙ append-nil fed) (first-written m h.start h.mid h.end h.front h.last h.first h.next)) read
   go (r ∷ rest) is =
-      let s = split fed h.front rest r h.last (sym h.are ∙ is) in
-      absurd (first-not m other h.start (first-front m h.start h.mid fed s.0 (subst (λ texts. AreFirst m h.start texts h.mid) s.1 h.first)).0 fed None
-      (first-front m h.start h.mid fed s.0 (subst (λ texts. AreFirst m h.start texts h.mid) s.1 h.first)).1 read)
+      let s = split fed h.front rest r h.last is in
+      let front = first-front m h.start h.mid fed s.0 (subst (λ texts. AreFirst m h.start texts h.mid) s.1 h.first) in
+      absurd (first-not m other h.start front.0 fed None front.1 read)
+
+-- nothing is read whole of no pieces
+nothing-read : (other : Message) (texts : List (List ℕ)) → IsPrefix texts [] → all_fed texts nothing ≡ Ok (Whole other) → ⊥
+unfolding all_fed
+nothing-read other [] prefix read = let wrong = ok_is (More None) (Whole other) read in absurd cc
+nothing-read other (text ∷ texts) prefix read = nil-no [] (texts ++ prefix.0) text prefix.1
 
 -- nothing is read whole of a front of pieces
-front-not : (other : Message) (told fed : List (List ℕ)) (last : List ℕ) → IsFront told → IsPrefix (fed ++ last ∷ []) told → all_fed (fed ++ last ∷ []) nothing ≡ Ok (Whole other) → ⊥
-front-not other told fed last (inl none) prefix read = nil-no fed prefix.0 last (sym none ∙ prefix.1 ∙ append_assoc fed (last ∷ []) prefix.0)
-front-not other told fed last (inr one) prefix read =
-    let front = first-front one.0 one.1.start one.1.end (fed ++ last ∷ []) prefix.0 (subst (λ texts. AreFirst one.0 one.1.start texts one.1.end) prefix.1 one.1.first) in
-    first-not one.0 other one.1.start front.0 (fed ++ last ∷ []) None front.1 read
-
--- ---- pieces that come as they were told
-
--- the pieces of a message that it has behind these
-abbrev pub run_after : List (List ℕ) → List Tried → List (List ℕ)
-run_after run [] = run
-run_after run (one ∷ rest) = run_after (run_behind run one.0 one.1) rest
-
-next-behind : (told run : List (List ℕ)) (xs ys : List Tried) → AreNext told run (xs ++ ys) → AreNext told (run_after run xs) ys
-next-behind told run [] ys h = h
-next-behind told run (x ∷ xs) ys h = next-behind told (run_behind run x.0 x.1) xs ys h.1
-
--- none where it begins again
-one-again : (run : List (List ℕ)) (piece : List ℕ) (refusal : Option ℕ) → again refusal ≡ true → run_behind run piece refusal ≡ []
-one-again run piece None h = absurd (true≢false (sym h))
-one-again run piece (Some code) h = go (code == 20) h where
-  go : (t : Bool) → cond t false true ≡ true → cond t run [] ≡ []
-  go true e = absurd (true≢false (sym e))
-  go false e = refl
-
-after-again : (so_far : Bool) (run : List (List ℕ)) (xs : List Tried) → (so_far ≡ true → run ≡ []) → last_again so_far xs ≡ true → run_after run xs ≡ []
-after-again so_far run [] none h = none h
-after-again so_far run (x ∷ xs) none h = after-again (again x.1) (run_behind run x.0 x.1) xs (one-again run x.0 x.1) h
-
--- and more by more where it goes on
-one-on : (run : List (List ℕ)) (piece : List ℕ) (refusal : Option ℕ) → again refusal ≡ false → run_behind run piece refusal ≡ run ++ if_kept piece refusal
-one-on run piece None h = refl
-one-on run piece (Some code) h = go (code == 20) h where
-  go : (t : Bool) → cond t false true ≡ false → cond t run [] ≡ run ++ []
-  go true e = sym (append-nil run)
-  go false e = absurd (true≢false e)
-
-after-on : (run : List (List ℕ)) (xs : List Tried) → AreGoingOn xs → run_after run xs ≡ run ++ kept_of xs
-after-on run [] h = sym (append-nil run)
-after-on run (x ∷ xs) h = ap (λ r. run_after r xs) (one-on run x.0 x.1 h.0) ∙ after-on (run ++ if_kept x.0 x.1) xs h.1 ∙ append_assoc run (if_kept x.0 x.1) (kept_of xs)
-
--- the pieces of which a message was read are the first ones that were told
-read-prefix : (m : Message) (told : List (List ℕ)) (tries : List Tried) (was : WasRead m tries) → AreNext told [] tries → IsPrefix (kept_of was.pieces ++ was.last ∷ []) told
-read-prefix m told tries was fed =
-    let all = subst (AreNext told []) was.are fed in
-    let behind = next-behind told [] was.before (was.pieces ++ (was.last, was.refusal) ∷ was.later) all in
-    let first = subst (λ run. AreNext told run (was.pieces ++ (was.last, was.refusal) ∷ was.later)) (after-again true [] was.before (λ so. refl) was.begins) behind in
-    let last = next-behind told [] was.pieces ((was.last, was.refusal) ∷ was.later) first in
-    subst (λ run. IsPrefix (run ++ was.last ∷ []) told) (after-on [] was.pieces was.goes_on) last.0
+front-not : (k : ℕ) (other : Message) (told came : List Numbered) → IsFront (of_message k told) → AreAsTold told came → WasRead k other came → ⊥
+front-not k other told came (inl none) as_told was = nothing-read other was.texts (read-first k other told came was [] as_told none) was.whole
+front-not k other told came (inr one) as_told was =
+    let prefix = read-first k other told came was one.1.texts as_told one.1.are in
+    let front = first-front one.0 one.1.start one.1.end was.texts prefix.0 (subst (λ texts. AreFirst one.0 one.1.start texts one.1.end) prefix.1 one.1.first) in
+    first-not one.0 other one.1.start front.0 was.texts None front.1 was.whole
 
 -- ---- all messages
 
-handed : (k : ℕ) (whole takes : List Message) (told : List (ℕ × List ℕ)) (tries : List (ℕ × (List ℕ × Option ℕ))) → ((m : Message) → Among m whole → IsSound m) → AreWhole k whole told → IsFront (of_number (k + length whole) told) → WereRead k takes tries
-    → AreFedAsTold told tries → IsPrefix takes whole
-handed k whole [] told tries sound each front read fed = (whole, refl)
-handed k [] (m ∷ ms) told tries sound each front read fed =
-    let was = read.0 in
-    let same : k + 0 ≡ k = omega arith in
-    absurd (front-not m (of_number k told) (kept_of was.pieces) was.last (subst (λ n. IsFront (of_number n told)) same front) (read-prefix m (of_number k told) (of_number k tries) was (fed k)) was.whole)
-handed k (w ∷ ws) (m ∷ ms) told tries sound each front read fed =
-    let was = read.0 in
+handed : (k : ℕ) (whole takes : List Message) (told came : List Numbered) → AreWhole k whole told → IsFront (of_message (k + length whole) told) → WereRead k takes came → AreAsTold told came → IsPrefix takes whole
+handed k whole [] told came each front read as_told = (whole, refl)
+handed k [] (m ∷ ms) told came each front read as_told = let same : k + 0 ≡ k = omega arith in absurd (front-not k m told came (subst (λ n. IsFront (of_message n told)) same front) as_told read.0)
+handed k (w ∷ ws) (m ∷ ms) told came each front read as_told =
     let same : k + length (w ∷ ws) ≡ (k + 1) + length ws = omega arith in
-    let one : m ≡ w = whole-read w m (of_number k told) (kept_of was.pieces ++ was.last ∷ []) (sound w (inl refl)) each.0 (read-prefix m (of_number k told) (of_number k tries) was (fed k)) was.whole in
-    let rest = handed (k + 1) ws ms told tries (λ x among. sound x (inr among)) each.1 (subst (λ n. IsFront (of_number n told)) same front) read.1 fed in
+    let prefix = read-first k m told came read.0 (each.0.front ++ each.0.last ∷ []) as_told each.0.are in
+    let one : m ≡ w = whole-read w m (of_message k told) read.0.texts each.0 prefix read.0.whole in
+    let rest = handed (k + 1) ws ms told came each.1 (subst (λ n. IsFront (of_message n told)) same front) read.1 as_told in
     (rest.0, ap (λ xs. w ∷ xs) rest.1 ∙ ap (λ x. x ∷ (ms ++ rest.0)) (sym one))
 
 pub links-hand-over : LinksHandOver
-links-hand-over is_gone puts takes told tries sound put read fed =
+links-hand-over is_gone puts takes told came put read as_told =
     let turned : length put.whole + 1 ≡ 1 + length put.whole = omega arith in
-    let prefix = handed 1 put.whole takes told tries (λ m among. sound m (subst (Among m) (sym put.are) (among-front m put.whole put.thrown among))) put.each (subst (λ n. IsFront (of_number n told)) turned put.front) read fed in
+    let prefix = handed 1 put.whole takes told came put.each (subst (λ n. IsFront (of_message n told)) turned put.front) read as_told in
     (prefix.0 ++ put.thrown, put.are ∙ ap (λ xs. xs ++ put.thrown) prefix.1 ∙ append_assoc takes prefix.0 put.thrown)

@@ -9,11 +9,14 @@ use Rattle.cq_chain_wire.specs.declared.reader.Progress.{Progress}
 use Rattle.cq_chain_wire.specs.declared.reader.Progress.TheVariants.{More, Whole}
 use Rattle.cq_events.specs.Actions.{Action, Arrived, Asked, Crashed, Detected, Joined, Put, Took, CoreState, Keeps, StandsAs}
 use Rattle.cq_events.specs.Acts.{ServerActs}
+use Rattle.cq_frames.specs.declared.number.PieceNumber.{PieceNumber}
 use Rattle.cq_process.specs.declared.incoming.Incoming.{Incoming}
+use Rattle.cq_process.specs.declared.incoming.TakeFault.TheVariants.{NotNext}
 use Rattle.cq_process.specs.Asking.{ActsBeside}
+use Rattle.cq_process.specs.Faults.{take_code}
 use Rattle.cq_process.specs.Links.{ChangesOnly, IsGoneToo, Received, end_of, held_by, is_gone, received_from}
 use Rattle.cq_process.specs.Outgoing.{End, IsFresh}
-use Rattle.cq_process.specs.Putting.{PutsNext, WritesOn, with_back}
+use Rattle.cq_process.specs.Putting.{PutsNext, WritesOn, number_next, with_back}
 use Rattle.cq_process.specs.Taking.{TakesOne, nothing, read_on}
 use Rattle.cq_server_process.specs.Answers.{State}
 use Rattle.cq_server_process.specs.Turns.{At}
@@ -42,9 +45,9 @@ core_now a = record { core = a.core; back = held_by a.outgoing }
 -- An end by which nothing leaves: it may be opened, and a message may be held there.
 abbrev pub Rests : Option End → Option End → Type 0
 Rests None None = ⊤
-Rests None (Some after) = (after.put ≡ 0) × IsFresh after.writer
+Rests None (Some after) = (after.put ≡ 0) × ((after.pieces ≡ 0) × IsFresh after.writer)
 Rests (Some before) None = ⊥
-Rests (Some before) (Some after) = (after.put ≡ before.put) × ((after.writer ≡ before.writer) × ((x : rust.Message) → before.held ≡ Some x → after.held ≡ Some x))
+Rests (Some before) (Some after) = (after.put ≡ before.put) × ((after.pieces ≡ before.pieces) × ((after.writer ≡ before.writer) × ((x : rust.Message) → before.held ≡ Some x → after.held ≡ Some x)))
 
 pub record Stays (a b : Now) : Type 0 where
   pub core : Keeps StandsAs (core_now a) (core_now b)
@@ -87,42 +90,49 @@ pub record OnlyFrom (from : Party) (a b : Now) : Type 0 where
 abbrev pub came_to : Now → Party → Received
 came_to a from = received_from a.incoming from
 
+-- the piece is the next one: of the message behind the last one that was taken, the one behind those that were read of it
+abbrev pub IsNext : PieceNumber → Received → Type 0
+IsNext number before = (number.message ≡ before.taken + 1) × (number.index ≡ before.pieces)
+
 -- A piece of the next message is read, and more are left of it.
-pub record Comes (from : Party) (number : ℕ) (piece : List ℕ) (a b : Now) : Type 0 where
+pub record Comes (from : Party) (number : PieceNumber) (piece : List ℕ) (a b : Now) : Type 0 where
   pub only : OnlyFrom from a b
   pub lives : is_gone a.gone from ≡ false
   pub keeps : chain.Keeps a.core b.core
-  pub next : number ≡ (came_to a from).taken + 1
+  pub next : IsNext number (came_to a from)
   pub so_far : Option build.State
   pub read : read_on piece (came_to a from).next ≡ Ok (More so_far)
   pub taken : (came_to b from).taken ≡ (came_to a from).taken
+  pub pieces : (came_to b from).pieces ≡ (came_to a from).pieces + 1
   pub left : (came_to b from).next ≡ More so_far
 
 -- A piece of the next message is read, which is whole, and the message is taken.
-pub record IsRead (from : Party) (number : ℕ) (piece : List ℕ) (message : rust.Message) (a b : Now) : Type 0 where
+pub record IsRead (from : Party) (number : PieceNumber) (piece : List ℕ) (message : rust.Message) (a b : Now) : Type 0 where
   pub only : OnlyFrom from a b
   pub lives : is_gone a.gone from ≡ false
   pub takes : (back : Party → Option rust.Message) → TakesOne a.core b.core back from message
-  pub next : number ≡ (came_to a from).taken + 1
+  pub next : IsNext number (came_to a from)
   pub read : read_on piece (came_to a from).next ≡ Ok (Whole message)
   pub taken : (came_to b from).taken ≡ (came_to a from).taken + 1
+  pub pieces : (came_to b from).pieces ≡ 0
   pub left : (came_to b from).next ≡ nothing
 
 -- what is left where a piece of the next message is refused: nothing of the message, or all of it
-abbrev pub IsLetGo : Progress → List ℕ → ℕ → Progress → Type 0
-IsLetGo before piece code after = ((after ≡ nothing) × (code ≡ 20 → ⊥)) ⊎ ((m : rust.Message) × ((read_on piece before ≡ Ok (Whole m)) × (after ≡ Whole m)))
+abbrev pub IsLetGo : Received → List ℕ → ℕ → Received → Type 0
+IsLetGo before piece code after = ((after.next ≡ nothing) × (after.pieces ≡ 0))
+    ⊎ ((code ≡ take_code NotNext → ⊥) × ((m : rust.Message) × ((read_on piece before.next ≡ Ok (Whole m)) × (after.next ≡ Whole m))))
 
--- the number isn't the next one, and all stays
-abbrev pub IsOutOfTurn : ℕ → ℕ → Received → Received → Type 0
-IsOutOfTurn number code before after = (number ≡ before.taken + 1 → ⊥) × ((code ≡ 20 → ⊥) × (after.next ≡ before.next))
+-- the piece isn't the next one, and all stays
+abbrev pub IsOutOfTurn : ℕ → Received → Received → Type 0
+IsOutOfTurn code before after = (code ≡ take_code NotNext) × ((after.next ≡ before.next) × (after.pieces ≡ before.pieces))
 
 -- A piece is refused.
-pub record Misses (from : Party) (number : ℕ) (piece : List ℕ) (code : ℕ) (a b : Now) : Type 0 where
+pub record Misses (from : Party) (number : PieceNumber) (piece : List ℕ) (code : ℕ) (a b : Now) : Type 0 where
   pub only : OnlyFrom from a b
   pub keeps : chain.Keeps a.core b.core
   pub taken : (came_to b from).taken ≡ (came_to a from).taken
   pub left : is_gone a.gone from ≡ false
-      → IsOutOfTurn number code (came_to a from) (came_to b from) ⊎ ((number ≡ (came_to a from).taken + 1) × IsLetGo (came_to a from).next piece code (came_to b from).next)
+      → IsOutOfTurn code (came_to a from) (came_to b from) ⊎ (IsNext number (came_to a from) × IsLetGo (came_to a from) piece code (came_to b from))
 
 -- A party is gone.
 pub record Loses (party : Party) (a b : Now) : Type 0 where
@@ -134,26 +144,28 @@ pub record Loses (party : Party) (a b : Now) : Type 0 where
 
 -- ---- pieces that leave
 
-pub record Tells (to : Party) (number : ℕ) (piece : List ℕ) (a b : Now) : Type 0 where
+pub record Tells (to : Party) (number : PieceNumber) (piece : List ℕ) (a b : Now) : Type 0 where
   pub only : OnlyTo to a b
   pub lives : is_gone a.gone to ≡ false
   pub was : End
   pub is_old : end_of a.outgoing to ≡ Some was
   pub becomes : End
   pub is_new : end_of b.outgoing to ≡ Some becomes
-  pub number_is : number ≡ was.put + 1
+  pub number_is : number ≡ number_next was
   pub put : becomes.put ≡ was.put
+  pub pieces : becomes.pieces ≡ was.pieces + 1
   pub writes : WritesOn a.core b.core to was becomes [] piece
 
-pub record Ends (to : Party) (number : ℕ) (piece : List ℕ) (message : rust.Message) (a b : Now) : Type 0 where
+pub record Ends (to : Party) (number : PieceNumber) (piece : List ℕ) (message : rust.Message) (a b : Now) : Type 0 where
   pub only : OnlyTo to a b
   pub lives : is_gone a.gone to ≡ false
   pub was : End
   pub is_old : end_of a.outgoing to ≡ Some was
   pub becomes : End
   pub is_new : end_of b.outgoing to ≡ Some becomes
-  pub number_is : number ≡ was.put + 1
+  pub number_is : number ≡ number_next was
   pub put : becomes.put ≡ was.put + 1
+  pub pieces : becomes.pieces ≡ 0
   pub writes : PutsNext a.core b.core to was becomes [] piece
   pub message_is : writes.message ≡ message
 

@@ -1,34 +1,38 @@
--- Lists of what has numbers, and of what is put and taken.
-use Rattle.std.proofs.Common.{◌≡◌, ℕ, ◌+◌, ◌==◌, ◌∙◌, ap, sym, refl, cond, List, [], ◌∷◌, ◌++◌, append_assoc, append-nil, length, map, Bool, true, false, Option, arith}
+-- Lists of pieces with their numbers, and of what is put and taken.
+use Rattle.std.proofs.Common.{◌≡◌, ℕ, ◌+◌, ◌==◌, ◌∙◌, ap, sym, refl, cond, List, [], ◌∷◌, ◌++◌, append_assoc, append-nil, length, map, Bool, true, false, arith}
 use Rattle.std.proofs.lemmas.Bool.{eq-eqb, ne_eqb}
 use Rattle.cq_base.specs.declared.party.Party.{Party}
 use Rattle.cq_chain.specs.declared.message.Message.{Message}
 use Rattle.cq_chain.specs.Parties.{same}
 use Rattle.cq_events.specs.Actions.{Action, Put, put_in, put_to, taken_in, taken_from}
-use Rattle.cq_process_laws.specs.Passing.{again, last_again, of_number}
+use Rattle.cq_frames.specs.declared.number.PieceNumber.{PieceNumber}
+use Rattle.cq_process_laws.specs.Passing.{Numbered, of_message, placed}
 
-pub number-both : {A : Type 0} (k : ℕ) (xs ys : List (ℕ × A)) → of_number k (xs ++ ys) ≡ of_number k xs ++ of_number k ys
-number-both k [] ys = refl
-number-both {A} k (x ∷ xs) ys = ap (λ zs. cond (k == x.0) (x.1 ∷ zs) zs) (number-both k xs ys) ∙ go (k == x.0) where
-  go : (t : Bool) → cond t (x.1 ∷ (of_number k xs ++ of_number k ys)) (of_number k xs ++ of_number k ys) ≡ cond t (x.1 ∷ of_number k xs) (of_number k xs) ++ of_number k ys
+pub message-both : (k : ℕ) (xs ys : List Numbered) → of_message k (xs ++ ys) ≡ of_message k xs ++ of_message k ys
+message-both k [] ys = refl
+message-both k (x ∷ xs) ys = ap (λ zs. cond (k == x.0.message) ((x.0.index, x.1) ∷ zs) zs) (message-both k xs ys) ∙ go (k == x.0.message) where
+  go : (t : Bool) → cond t ((x.0.index, x.1) ∷ (of_message k xs ++ of_message k ys)) (of_message k xs ++ of_message k ys) ≡ cond t ((x.0.index, x.1) ∷ of_message k xs) (of_message k xs) ++ of_message k ys
   go true = refl
   go false = refl
 
--- with one more of that number
-pub number-here : {A : Type 0} (k n : ℕ) (xs : List (ℕ × A)) (x : A) → k ≡ n → of_number k (xs ++ (n, x) ∷ []) ≡ of_number k xs ++ x ∷ []
-number-here k n xs x is = number-both k xs ((n, x) ∷ []) ∙ ap (λ t. of_number k xs ++ cond t (x ∷ []) []) (eq-eqb k n is)
+-- with one more of that message
+pub message-here : (k : ℕ) (n : PieceNumber) (xs : List Numbered) (piece : List ℕ) → k ≡ n.message → of_message k (xs ++ (n, piece) ∷ []) ≡ of_message k xs ++ (n.index, piece) ∷ []
+message-here k n xs piece is = message-both k xs ((n, piece) ∷ []) ∙ ap (λ t. of_message k xs ++ cond t ((n.index, piece) ∷ []) []) (eq-eqb k n.message is)
 
 -- or of another
-pub number-there : {A : Type 0} (k n : ℕ) (xs : List (ℕ × A)) (x : A) → (k ≡ n → ⊥) → of_number k (xs ++ (n, x) ∷ []) ≡ of_number k xs
-number-there k n xs x apart = number-both k xs ((n, x) ∷ []) ∙ ap (λ t. of_number k xs ++ cond t (x ∷ []) []) (ne_eqb k n apart) ∙ append-nil (of_number k xs)
+pub message-there : (k : ℕ) (n : PieceNumber) (xs : List Numbered) (piece : List ℕ) → (k ≡ n.message → ⊥) → of_message k (xs ++ (n, piece) ∷ []) ≡ of_message k xs
+message-there k n xs piece apart = message-both k xs ((n, piece) ∷ []) ∙ ap (λ t. of_message k xs ++ cond t ((n.index, piece) ∷ []) []) (ne_eqb k n.message apart) ∙ append-nil (of_message k xs)
+
+-- one text more has the next place
+pub placed-last : (index : ℕ) (texts : List (List ℕ)) (text : List ℕ) → placed index (texts ++ text ∷ []) ≡ placed index texts ++ (index + length texts, text) ∷ []
+placed-last index [] text = let same : index ≡ index + 0 = omega arith in ap (λ n. (n, text) ∷ []) same
+placed-last index (x ∷ texts) text =
+    let same : (index + 1) + length texts ≡ index + length (x ∷ texts) = omega arith in
+    ap (λ ps. (index, x) ∷ ps) (placed-last (index + 1) texts text ∙ ap (λ n. placed (index + 1) texts ++ (n, text) ∷ []) same)
 
 pub length-last : {A : Type 0} (xs : List A) (x : A) → length (xs ++ x ∷ []) ≡ length xs + 1
 length-last [] x = refl
 length-last (y ∷ xs) x = let more = length-last xs x in omega arith
-
-pub again-last : (first : Bool) (xs : List (List ℕ × Option ℕ)) (x : List ℕ × Option ℕ) → last_again first (xs ++ x ∷ []) ≡ again x.1
-again-last first [] x = refl
-again-last first (y ∷ xs) x = again-last (again y.1) xs x
 
 pub put-both : (to : Party) (xs ys : List Action) → put_to to (xs ++ ys) ≡ put_to to xs ++ put_to to ys
 put-both to [] ys = refl

@@ -15,7 +15,7 @@ use Rattle.cq_process.specs.declared.outgoing.Written.{Written}
 use Rattle.cq_process.specs.declared.outgoing.Written.TheVariants as written_as
 use Rattle.cq_process.specs.Links.{ChangesOnly, IsOpened, PutsAt, ThrowsFrom, end_of, held_at, held_by, is_gone}
 use Rattle.cq_process.specs.Outgoing.{End}
-use Rattle.cq_process.specs.Putting.{Idles}
+use Rattle.cq_process.specs.Putting.{Idles, IsCounted}
 use Rattle.cq_server_process.specs.declared.turn.Stop.{Stop}
 use Rattle.cq_server_process.specs.Rounds.{AreInTurn, OneTurn, Rounds, told_in}
 use Rattle.cq_server_process.specs.Turns.{At, HasTurn, IsUnopened, Opens, Sends, SendsAll, Steps, ThrowsFor, TurnOf, put_of}
@@ -57,7 +57,7 @@ makes-rest to a b told stays none = record { deeds = Rested ∷ []; did = (b, (s
 
 pub rests-same : (o : Option End) → Rests o o
 rests-same None = tt
-rests-same (Some end) = (refl, (refl, λ x h. h))
+rests-same (Some end) = (refl, (refl, (refl, λ x h. h)))
 
 pub rests-by : (old new : List (Party × End)) (to : Party) → ChangesOnly old new to → Rests (end_of old to) (end_of new to) → (p : Party) → Rests (end_of old p) (end_of new p)
 rests-by old new to others here p = go (same to p) refl where
@@ -67,7 +67,7 @@ rests-by old new to others here p = go (same to p) refl where
 
 opened-rests : (o u : Option End) → IsOpened o u → Rests o u
 opened-rests o None h = absurd h
-opened-rests None (Some after) h = (h.put, h.fresh)
+opened-rests None (Some after) h = (h.put, (h.pieces, h.fresh))
 opened-rests (Some before) (Some after) h = subst (λ e. Rests (Some before) (Some e)) (sym h) (rests-same (Some before))
 
 opened-held : (o u : Option End) → IsOpened o u → held_at u ≡ held_at o
@@ -101,10 +101,10 @@ unopened-stays n a b to h = stays-at n a b to (subst (λ c. chain.Keeps a.core c
 -- ---- one piece
 
 module _ (n : Now) (a b : At) (to : Party) (others : ChangesOnly a.ends b.ends to) where
-  idle-stays : (was is : End) → end_of a.ends to ≡ Some was → end_of b.ends to ≡ Some is → is.put ≡ was.put → Idles a.core b.core to was is → Stays (with_at n a) (with_at n b)
-  idle-stays was is old new put idles = record {
+  idle-stays : (was is : End) → end_of a.ends to ≡ Some was → end_of b.ends to ≡ Some is → IsCounted was.put was.pieces is → Idles a.core b.core to was is → Stays (with_at n a) (with_at n b)
+  idle-stays was is old new counted idles = record {
     core = by-back (λ back. Keeps StandsAs (core_now (with_at n a)) (record { core = b.core; back = back })) a.ends b.ends to is.held others (ap held_at new) (idles.kept (held_by a.ends) (ap held_at old));
-    outgoing = rests-by a.ends b.ends to others (subst (λ o. Rests o (end_of b.ends to)) (sym old) (subst (λ o. Rests (Some was) o) (sym new) (put, (idles.writer, idles.same))));
+    outgoing = rests-by a.ends b.ends to others (subst (λ o. Rests o (end_of b.ends to)) (sym old) (subst (λ o. Rests (Some was) o) (sym new) (counted.0, (counted.1, (idles.writer, idles.same)))));
     incoming = refl;
     gone = refl;
   }
@@ -125,7 +125,8 @@ module _ (n : Now) (a b : At) (to : Party) (others : ChangesOnly a.ends b.ends t
           becomes = h.becomes;
           is_new = h.is_new;
           number_is = h.puts.numbers.0;
-          put = h.puts.numbers.1;
+          put = h.puts.numbers.1.0;
+          pieces = h.puts.numbers.1.1;
           writes = h.puts.some;
         },
         refl,
@@ -148,7 +149,8 @@ module _ (n : Now) (a b : At) (to : Party) (others : ChangesOnly a.ends b.ends t
           becomes = h.becomes;
           is_new = h.is_new;
           number_is = h.puts.numbers.0;
-          put = h.puts.numbers.1 ∙ h.puts.numbers.0;
+          put = h.puts.numbers.1.0;
+          pieces = h.puts.numbers.1.1;
           writes = h.puts.last;
           message_is = refl;
         },

@@ -5,28 +5,29 @@ use Rattle.cq_base.specs.declared.party.Party.{Party}
 use Rattle.cq_base.specs.declared.party.Party.TheVariants.{Master, Clients, Server}
 use Rattle.cq_chain.specs.declared.message.Message as rust
 use Rattle.cq_events.specs.Actions.{Action, Put, Took}
+use Rattle.cq_frames.specs.declared.number.PieceNumber.{PieceNumber}
 use Rattle.cq_frames.specs.declared.response.Response.{Response}
 use Rattle.cq_frames.specs.declared.response.Response.TheVariants as responses
 use Rattle.cq_process.specs.Links.{is_gone}
 
--- One thing that a process does. A piece has the number of its message on the link from or to that party.
+-- One thing that a process does. A piece has its number on the link from or to that party.
 pub data Deed : Type 0 where
   -- nothing that counts
   Rested : Deed
   -- the core does that, of itself
   Acted : Action → Deed
   -- a piece came and was read, and more are left of its message
-  Came : Party → ℕ → List ℕ → Deed
+  Came : Party → PieceNumber → List ℕ → Deed
   -- a piece came, and the message was taken, which is read whole
-  Read : Party → ℕ → List ℕ → rust.Message → Deed
+  Read : Party → PieceNumber → List ℕ → rust.Message → Deed
   -- a piece came, and was refused by the fault of that number, which comes last
-  Missed : Party → ℕ → List ℕ → ℕ → Deed
+  Missed : Party → PieceNumber → List ℕ → ℕ → Deed
   -- that party is gone
   Lost : Party → Deed
   -- a piece is told, and more are left of its message
-  Told : Party → ℕ → List ℕ → Deed
+  Told : Party → PieceNumber → List ℕ → Deed
   -- the last piece of the message is told, and the message is put
-  Ended : Party → ℕ → List ℕ → rust.Message → Deed
+  Ended : Party → PieceNumber → List ℕ → rust.Message → Deed
   -- the messages for a party that is gone are put and thrown away
   Threw : Party → List rust.Message → Deed
 

@@ -1,14 +1,13 @@
 -- The statements of the laws.
 use Rattle.std.specs.Prelude.{ℕ, List, Bool, Option}
-use Rattle.cq_base.specs.Relations.{Among, IsPrefix}
+use Rattle.cq_base.specs.Relations.{IsPrefix}
 use Rattle.cq_chain.specs.declared.message.Message.{Message}
 use Rattle.cq_chain.specs.Servers as states
-use Rattle.cq_chain_wire.specs.Laws.{IsSound}
 use Rattle.cq_frame_loop.specs.Chains.{IsChain, Step}
 use Rattle.cq_server_process.specs.declared.process.ServerProcess.{ServerProcess}
 use Rattle.cq_server_process.specs.Answers.{Answers, IsNewProcess, State}
 use Rattle.cq_server_process.specs.Processes.{answers}
-use Rattle.cq_process_laws.specs.Passing.{AreFedAsTold, ArePutAsTold, WereRead}
+use Rattle.cq_process_laws.specs.Passing.{AreAsTold, ArePutAsTold, Numbered, WereRead}
 use Rattle.cq_process_laws.specs.Runs.{Done, IsDone, IsRun, state_of}
 
 -- What a process does of a frame are actions of its core, and all pieces are told.
@@ -19,7 +18,6 @@ AnswersAreActions = (p q : State) (frame : Option (List ℕ)) (text : List ℕ) 
 abbrev pub RunsAreActions : Type 0
 RunsAreActions = (s : states.Server) (first last : ServerProcess) (steps : List (Step ServerProcess)) → IsNewProcess s (state_of first) → IsChain answers first steps last → IsRun s (state_of first) steps (state_of last)
 
--- Where one process is fed the pieces that another one told for it, it takes what the other one put.
+-- Where each piece that comes to a process in turn was told by another one, with its number, it takes what the other one put, in order.
 abbrev pub LinksHandOver : Type 0
-LinksHandOver = (is_gone : Bool) (puts takes : List Message) (told : List (ℕ × List ℕ)) (tries : List (ℕ × (List ℕ × Option ℕ))) → ((m : Message) → Among m puts → IsSound m)
-    → ArePutAsTold is_gone puts told → WereRead 1 takes tries → AreFedAsTold told tries → IsPrefix takes puts
+LinksHandOver = (is_gone : Bool) (puts takes : List Message) (told came : List Numbered) → ArePutAsTold is_gone puts told → WereRead 1 takes came → AreAsTold told came → IsPrefix takes puts

@@ -24,7 +24,7 @@ use Rattle.cq_wire.specs.declared.fault.WireFault.TheVariants.{BadNumber}
 use Rattle.cq_wire.specs.Faults.{wire_code}
 use Rattle.cq_wire.specs.Reading.{whole_at}
 use Rattle.cq_process_laws.specs.Deeds.{Acted, AllTo, Came, Deed, IsInTurns, Lost, Missed, Read, Rested, actions_in, responses_in}
-use Rattle.cq_process_laws.specs.Passing.{ArePutAsTold, WereRead, brought_in, pieces_for}
+use Rattle.cq_process_laws.specs.Passing.{ArePutAsTold, Numbered, WereRead, brought_in, pieces_for}
 
 -- the core of a process, with the messages that are being written
 abbrev pub core_of : State → CoreState rust_server.Server
@@ -144,8 +144,8 @@ all_actions done = actions_in (deeds_in done)
 abbrev pub told_in : List Done → List Response
 told_in done = flat_map (λ one. one.told) done
 
--- the pieces from a party that the frames brought
-abbrev pub brought_from : Party → List (Step ServerProcess) → List Done → List (ℕ × (List ℕ × Option ℕ))
+-- the pieces from a party that the frames brought in turn
+abbrev pub brought_from : Party → List (Step ServerProcess) → List Done → List Numbered
 brought_from from [] done = []
 brought_from from (step ∷ steps) [] = []
 brought_from from (step ∷ steps) (one ∷ rest) = brought_in from step.frame one.told ++ brought_from from steps rest

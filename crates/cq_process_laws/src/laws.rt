@@ -13,9 +13,9 @@ pub fn runs_are_actions()
     ensures { RunsAreActions }
 {}
 
-/// Where one process is fed the pieces that another one told for it, it takes the messages that the other one put, in order. With each
-/// number the pieces come as they were told. Behind a refusal for want of memory (20) the same piece comes again, and behind any other one
-/// the first piece of its message.
+/// Where each piece that comes to one process was told for it by another one, with its number, it takes the messages that the other one
+/// put, in order. It doesn't matter in which order the pieces come, which come again, or which come ahead of others: those out of turn are
+/// refused (45), and may be any.
 pub fn links_hand_over()
     ensures { LinksHandOver }
 {}

@@ -1,5 +1,5 @@
 //! What is told of a server, read from its frames.
-use crate::links::{Member, create, node, party};
+use crate::links::{Member, create, first_piece, node, party};
 use cq_base::{Moment, Party};
 use cq_frames::{Response, frame_of, read_response};
 use cq_process::{PutFault, Written, arrive, standing};
@@ -36,7 +36,7 @@ fn next(alloc: Global, bytes: &[u8]) -> Result<(Response, &[u8]), Fail> {
 fn is_first_put(response: &Response) -> bool {
     match response {
         Response::Put { to, number, piece } => {
-            *to != Party::Clients && *number == 1 && !piece.as_bytes().is_empty()
+            *to != Party::Clients && *number == first_piece(1) && !piece.as_bytes().is_empty()
         }
         _ => false,
     }
@@ -58,7 +58,11 @@ fn check_told(rt: &impl Abort, alloc: Global, head: &mut Member) -> Result<(), F
     assert!(rt; arrive(&mut head.core, &request, Moment::zero()) == Ok(()));
     let mut out = Vec::new(alloc);
     let told = tell(head, party(2)?, &mut out);
-    assert!(rt; told == Some(Ok(Ok(Written::Message { number: 1 }))));
+    assert!(rt;
+        told == Some(Ok(Ok(Written::Message {
+            number: first_piece(1)
+        })))
+    );
     let length = out.len();
     let told = tell(head, party(2)?, &mut out);
     assert!(rt; told == Some(Ok(Ok(Written::Nothing))));

@@ -1,6 +1,7 @@
 //! Two servers of a chain, each with its links, and what goes from one to the other in pieces.
 use cq_base::{Ask, ChainSize, Moment, Party, QueueName, Request, Seconds, ServerId};
 use cq_chain::Server;
+use cq_frames::PieceNumber;
 use cq_process::{Links, PutFault, TakeFault, Taken, Written, arrive, standing};
 use std::alloc::Global;
 use std::process::Abort;
@@ -37,6 +38,11 @@ pub fn node(alloc: Global, number: u32) -> Result<Member, Fail> {
     })
 }
 
+/// The first piece of the message of that number.
+pub fn first_piece(message: u64) -> PieceNumber {
+    PieceNumber { message, index: 0 }
+}
+
 /// Client 1 creates `q.fifo`.
 pub fn create(alloc: Global) -> Result<Request, Fail> {
     let queue = QueueName::new(alloc, "q.fifo")?;
@@ -63,7 +69,12 @@ fn put(node: &mut Member, to: Party, piece: &mut Vec<u8>) -> Option<Result<Writt
     Some(node.links.put_next(&mut node.core, to, piece, 1_000))
 }
 
-fn take(node: &mut Member, from: Party, number: u64, piece: &[u8]) -> Result<Taken, TakeFault> {
+fn take(
+    node: &mut Member,
+    from: Party,
+    number: PieceNumber,
+    piece: &[u8],
+) -> Result<Taken, TakeFault> {
     node.links.take(&mut node.core, from, number, piece)
 }
 
@@ -76,10 +87,20 @@ fn check_passes(
 ) -> Result<(), Fail> {
     let mut piece = Vec::new(alloc);
     let written = put(from.0, to.1, &mut piece);
-    assert!(rt; written == Some(Ok(Written::Message { number: 1 })));
-    assert!(rt; take(to.0, from.1, 2, &piece) == Err(TakeFault::NotNext));
-    assert!(rt; take(to.0, from.1, 1, &piece) == Ok(Taken::Message));
-    assert!(rt; take(to.0, from.1, 1, &piece) == Err(TakeFault::NotNext));
+    assert!(rt;
+        written
+            == Some(Ok(Written::Message {
+                number: first_piece(1)
+            }))
+    );
+    assert!(rt; take(to.0, from.1, first_piece(2), &piece) == Err(TakeFault::NotNext));
+    let later = PieceNumber {
+        message: 1,
+        index: 1,
+    };
+    assert!(rt; take(to.0, from.1, later, &piece) == Err(TakeFault::NotNext));
+    assert!(rt; take(to.0, from.1, first_piece(1), &piece) == Ok(Taken::Message));
+    assert!(rt; take(to.0, from.1, first_piece(1), &piece) == Err(TakeFault::NotNext));
     assert!(rt; put(from.0, to.1, &mut piece) == Some(Ok(Written::Nothing)));
     Ok(())
 }
@@ -97,7 +118,12 @@ fn check_the_entry_goes_round(
     assert!(rt; standing(&head.core).acked == 1);
     let mut answer = Vec::new(alloc);
     let written = put(tail, Party::Clients, &mut answer);
-    assert!(rt; written == Some(Ok(Written::Message { number: 1 })));
+    assert!(rt;
+        written
+            == Some(Ok(Written::Message {
+                number: first_piece(1)
+            }))
+    );
     Ok(())
 }
 
@@ -122,7 +148,7 @@ fn check_nothing_comes_of_the_gone(
     assert!(rt; !head.links.is_gone(&Party::Server(tail)));
     head.links.gone(&mut head.core, tail)?;
     assert!(rt; head.links.is_gone(&Party::Server(tail)));
-    assert!(rt; take(head, Party::Server(tail), 1, &piece) == Err(TakeFault::NotNext));
+    assert!(rt; take(head, Party::Server(tail), first_piece(1), &piece) == Err(TakeFault::NotNext));
     assert!(rt; put(head, Party::Server(tail), &mut piece) == Some(Ok(Written::Nothing)));
     Ok(())
 }

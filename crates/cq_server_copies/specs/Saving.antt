@@ -6,9 +6,12 @@ use Rattle.cq_chain.specs.declared.server.Server as rust_server
 use Rattle.cq_chain.specs.Messages as messages
 use Rattle.cq_chain.specs.Servers as states
 use Rattle.cq_chain.specs.Stands as servers
+use Rattle.cq_frames.specs.declared.command.Command.TheVariants.{Save}
 use Rattle.cq_frames.specs.declared.response.Response.{Response}
 use Rattle.cq_frames.specs.declared.response.Response.TheVariants as responses
 use Rattle.cq_frames.specs.declared.response.Standing.{Standing}
+use Rattle.cq_frames.specs.declared.response.TheConstants.{NO_MEMORY}
+use Rattle.cq_frames.specs.Layout.{command}
 use Rattle.cq_process_frames.specs.Frames.{frame}
 use Rattle.cq_server_copies.specs.declared.copy.StoreCopy.{StoreCopy}
 use Rattle.cq_server_copies.specs.declared.saving.SavingProcess.{SavingProcess}
@@ -20,7 +23,7 @@ use Rattle.cq_store_wire.specs.declared.part.Part.{Part}
 use Rattle.cq_store_wire.specs.declared.writer.Place.TheVariants as places
 use Rattle.cq_store_wire.specs.Chunks.{IsChunk}
 use Rattle.cq_store_wire.specs.Order.{parts_from}
-use Rattle.cq_wire.specs.declared.version.TheConstants.{VERSION}
+use Rattle.cq_wire.specs.Layout.{whole}
 
 -- The copy stands for these entries, and nothing of it is told.
 pub record IsCopyOf (entries : List Entry) (copy : StoreCopy) : Type 0 where
@@ -69,11 +72,11 @@ pub record Saves (p q : SavingProcess) (told : List Response) : Type 0 where
 pub record LetsCopyGo (p q : SavingProcess) (told : List Response) : Type 0 where
   pub copy : q.copy ≡ None
   pub process : q.process ≡ p.process
-  pub is : told ≡ responses.Refused 20 ∷ []
+  pub is : told ≡ responses.Refused NO_MEMORY ∷ []
 
 -- the frame of a command to tell the next chunk
 abbrev pub IsSave : Option (List ℕ) → Type 0
-IsSave frame = frame ≡ Some (VERSION ∷ 7 ∷ [])
+IsSave frame = frame ≡ Some (whole command Save)
 
 abbrev pub AnswersSave : SavingProcess → SavingProcess → List ℕ → Type 0
 AnswersSave p q text = (told : List Response) × ((text ≡ frames told) × (Saves p q told ⊎ LetsCopyGo p q told))

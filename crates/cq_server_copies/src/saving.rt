@@ -1,21 +1,17 @@
 //! A process that keeps a server, and tells copies of its store.
-ghost use Rattle.std.specs.Prelude.{◌≡◌, ◌≤◌, ◌++◌, List, ℕ, [], ◌∷◌, None, Some, true, false, option_map, vec_capacity, vec_len, IfOk, OnErr, OnOk};
+ghost use Rattle.std.specs.Prelude.{◌≡◌, ◌≤◌, ◌++◌, List, ℕ, [], None, Some, true, false, option_map, vec_capacity, vec_len, IfOk, OnErr, OnOk};
 ghost use Rattle.cq_base.specs.Relations.{IsPrefix};
 ghost use Rattle.cq_server_copies.specs.Saving.{Begins, SavesChunk, TellsAnswer, TellsSave};
-ghost use Rattle.cq_wire.specs.declared.version.TheConstants.{VERSION as TheVersion};
 
 use crate::copy::StoreCopy;
 use crate::tell::{Unsaved, tell_saved};
 use cq_base::NoMemory;
 use cq_chain::Server;
+use cq_frames::{NO_MEMORY, is_save};
 use cq_process::standing;
 use cq_process_frames::{TooLong, tell_done, tell_refused};
 use cq_server_process::ServerProcess;
-use cq_wire::VERSION;
 use std::alloc::Global;
-
-/// The number under which want of memory is told.
-const NO_MEMORY: u32 = 20;
 
 /// A process that keeps a server, and the copy of its store of which some is told, if there is one.
 #[derive(Drop)]
@@ -23,17 +19,6 @@ pub struct SavingProcess {
     alloc: Global,
     process: ServerProcess,
     copy: Option<StoreCopy>,
-}
-
-/// Whether the bytes are those of the command to tell the next chunk of a copy.
-fn is_save(bytes: &[u8]) -> bool
-    ensures yes { result ≡ true → bytes.now ≡ TheVersion ∷ 7 ∷ [] }
-    ensures no { result ≡ false → bytes.now ≡ TheVersion ∷ 7 ∷ [] → ⊥ }
-{
-    match bytes {
-        [version, kind] => *version == VERSION && *kind == 7,
-        _ => false,
-    }
 }
 
 /// Tells the next chunk of the copy, which is gone behind the empty one, or where there is no memory.

@@ -15,10 +15,11 @@ use Rattle.cq_chain.specs.Stands.{Keeps, StandsFor}
 use Rattle.cq_events.specs.Actions.{Action, Arrived, Asked}
 use Rattle.cq_frames.specs.declared.command.Command.{Command}
 use Rattle.cq_frames.specs.declared.command.Command.TheVariants as commands
+use Rattle.cq_frames.specs.declared.number.PieceNumber.{PieceNumber}
 use Rattle.cq_frames.specs.declared.response.Response.{Response}
 use Rattle.cq_frames.specs.declared.response.Response.TheVariants as responses
 use Rattle.cq_frames.specs.declared.response.Standing.{Standing}
-use Rattle.cq_frames.specs.declared.response.TheConstants.{NOT_HERE}
+use Rattle.cq_frames.specs.declared.response.TheConstants.{NO_MEMORY, NOT_HERE}
 use Rattle.cq_frames.specs.Reading.{command_at}
 use Rattle.cq_process.specs.declared.incoming.TakeFault.{TakeFault}
 use Rattle.cq_process.specs.declared.incoming.TakeFault.TheVariants as take_faults
@@ -54,7 +55,7 @@ pub record Beside (action : Action) (p q : State) : Type 0 where
   pub links : q.links ≡ p.links
 
 -- A piece is taken, and the message with its last one.
-pub record Takes (from : Party) (number : ℕ) (piece : List ℕ) (p q : State) : Type 0 where
+pub record Takes (from : Party) (number : PieceNumber) (piece : List ℕ) (p q : State) : Type 0 where
   pub taken : Taken
   pub lives : is_gone p.links.gone.keys from ≡ false
   pub takes : TakesPiece (received_from p.links.incoming from) (received_from q.links.incoming from) p.core q.core from number piece (Ok taken)
@@ -112,7 +113,7 @@ pub record IsRefused (refusal : states.Server → Option WorldFault) (code : ℕ
   pub refused : (s : states.Server) (outbox : Party → List messages.Message) → StandsFor p.core s outbox → chain_faults.IsRefusal fault (refusal s)
 
 -- A piece isn't taken. Of a party that is gone none is.
-pub record Leaves (from : Party) (number : ℕ) (piece : List ℕ) (code : ℕ) (p q : State) : Type 0 where
+pub record Leaves (from : Party) (number : PieceNumber) (piece : List ℕ) (code : ℕ) (p q : State) : Type 0 where
   pub fault : TakeFault
   pub is : code ≡ take_code fault
   pub lives : is_gone p.links.gone.keys from ≡ false
@@ -124,7 +125,7 @@ pub record Leaves (from : Party) (number : ℕ) (piece : List ℕ) (code : ℕ) 
 
 -- There is no memory to know that a server is gone, and nothing is changed.
 pub record Stays (code : ℕ) (p q : State) : Type 0 where
-  pub is : code ≡ 20
+  pub is : code ≡ NO_MEMORY
   pub keeps : Keeps p.core q.core
   pub incoming : q.links.incoming ≡ p.links.incoming
   pub outgoing : q.links.outgoing ≡ p.links.outgoing

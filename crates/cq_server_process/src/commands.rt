@@ -9,7 +9,7 @@ use crate::send::send;
 use crate::turn::Stop;
 use cq_base::{Moment, Party, Query, Request, ServerId};
 use cq_chain::Server;
-use cq_frames::{Command, NOT_HERE};
+use cq_frames::{Command, NO_MEMORY, NOT_HERE, PieceNumber};
 use cq_process::{Links, PutFault, arrive, ask};
 use cq_process_frames::TooLong;
 
@@ -45,7 +45,7 @@ fn take_at(
     links: &mut Links,
     core: &mut Server,
     from: Party,
-    number: u64,
+    number: PieceNumber,
     piece: &[u8],
 ) -> Result<(), u32>
     ensures ok { OnOk result (Takes from number piece.now (state links.old core.old) (state links.new core.new)) }
@@ -65,7 +65,7 @@ fn gone_at(links: &mut Links, core: &mut Server, server: ServerId) -> Result<(),
     match links.gone(core, server) {
         Ok(()) => Ok(()),
         Err(PutFault::NumbersSpent) => Ok(()),
-        Err(PutFault::NoMemory) => Err(20),
+        Err(PutFault::NoMemory) => Err(NO_MEMORY),
     }
 }
 

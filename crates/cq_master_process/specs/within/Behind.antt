@@ -9,7 +9,7 @@ use Rattle.cq_chain.specs.Stands.{MasterStandsFor}
 use Rattle.cq_frames.specs.declared.command.Command.{Command}
 use Rattle.cq_frames.specs.declared.response.Response.TheVariants.{Refused, Unread}
 use Rattle.cq_master_process.specs.declared.process.MasterProcess.{MasterProcess}
-use Rattle.cq_master_process.specs.declared.process.TheConstants.{NO_MEMORY}
+use Rattle.cq_frames.specs.declared.response.TheConstants.{NO_MEMORY}
 use Rattle.cq_master_process.specs.Answering.{Answers, IsDone, IsRefused, told_behind}
 use Rattle.cq_master_process.specs.Links.{gone_of, put_of}
 use Rattle.cq_master_process.specs.Putting.{AreInOrder, Puts, Sent, left_of, sent_to}

@@ -13,6 +13,7 @@ use Rattle.cq_frames.specs.declared.response.Response.TheVariants.{Put}
 use Rattle.cq_master_process.specs.declared.telling.Putting.{Putting}
 use Rattle.cq_master_process.specs.declared.telling.Putting.TheVariants as what
 use Rattle.cq_master_process.specs.Cores.{piece_of}
+use Rattle.cq_master_process.specs.Putting.{only_piece}
 use Rattle.cq_process_frames.specs.Frames.{frame}
 use Rattle.cq_wire.specs.Limits.{IsServer}
 
@@ -62,7 +63,7 @@ WaitsFor core to = (m : Master) (outbox : Party → List Message) → MasterStan
 pub record TellsFirst (core : rust_master.Master) (to number : ℕ) (old new : List ℕ) : Type 0 where
   pub message : rust.Message
   pub first : IsFirstFor core to message
-  pub bytes : new ≡ old ++ frame (Put (parties.Server to) number (piece_of message))
+  pub bytes : new ≡ old ++ frame (Put (parties.Server to) (only_piece number) (piece_of message))
   pub fits : IsMessage message
   pub server : IsServer to
   pub short : length (piece_of message) ≤ PIECE_LIMIT

@@ -4,9 +4,9 @@ ghost use Rattle.cq_base.specs.Relations.{IsPrefix};
 ghost use Rattle.cq_master_process.specs.Answering.{Answers, told_behind};
 ghost use Rattle.cq_master_process.specs.within.Behind.{AnswersBehind, AnswersCommand, TellsTurns, told_of_fault};
 
-use super::{MasterProcess, NO_MEMORY, Unanswered};
+use super::{MasterProcess, Unanswered};
 use cq_base::{Party, ServerId};
-use cq_frames::{Command, read_command};
+use cq_frames::{Command, NO_MEMORY, read_command};
 use cq_process_frames::{tell_heard, tell_refused, tell_unread, tell_waiting};
 use cq_wire::{ReadFault, WireFault};
 

@@ -7,11 +7,11 @@ ghost use Rattle.cq_master_process.specs.Refusing.{Refuses, RefusesFrom, Refuses
 ghost use Rattle.cq_master_process.specs.Steps.{Does, Forgets, Keeps, Orders, Takes, TakesFrom, TakesMessage, is_in_turn};
 ghost use Rattle.cq_process.specs.declared.outgoing.TheConstants.{LINK_LIMIT};
 
-use super::{MasterProcess, NO_MEMORY};
+use super::MasterProcess;
 use cq_base::{Party, ServerId};
 use cq_chain::Message;
 use cq_chain_wire::read_message;
-use cq_frames::{Command, NOT_HERE};
+use cq_frames::{Command, NO_MEMORY, NOT_HERE, PieceNumber};
 use cq_process::TakeFault;
 
 impl MasterProcess {
@@ -46,7 +46,7 @@ impl MasterProcess {
     }
 
     /// The core takes the message that the piece is, which is in its turn.
-    fn take_piece(&mut self, from: ServerId, number: u64, piece: &[u8]) -> Result<(), u32>
+    fn take_piece(&mut self, from: ServerId, number: PieceNumber, piece: &[u8]) -> Result<(), u32>
         requires in_turn { is_in_turn self.old from number ≡ true }
         requires room { taken_of self.old.links from < LINK_LIMIT }
         ensures took { OnOk result (Takes self.old self.new from number piece.now) }
@@ -59,8 +59,8 @@ impl MasterProcess {
         }
     }
 
-    /// A piece comes from that server under that number: the next message, whole.
-    fn take(&mut self, from: ServerId, number: u64, piece: &[u8]) -> Result<(), u32>
+    /// The piece of that number comes from that server: the next message, whole.
+    fn take(&mut self, from: ServerId, number: PieceNumber, piece: &[u8]) -> Result<(), u32>
         ensures took { OnOk result (Takes self.old self.new from number piece.now) }
         ensures refused { IfErr result (λ code. RefusesTake self.old from number piece.now code) }
         ensures same { OnErr result (Keeps self.old self.new) }
@@ -72,7 +72,7 @@ impl MasterProcess {
     }
 
     /// The same of any party: no message of another one may come here.
-    fn take_from(&mut self, from: &Party, number: u64, piece: &[u8]) -> Result<(), u32>
+    fn take_from(&mut self, from: &Party, number: PieceNumber, piece: &[u8]) -> Result<(), u32>
         ensures took { OnOk result (TakesFrom self.old self.new from.now number piece.now) }
         ensures refused { IfErr result (λ code. RefusesFrom self.old from.now number piece.now code) }
         ensures same { OnErr result (Keeps self.old self.new) }

@@ -14,7 +14,7 @@ returns-clause-let_go c = elim c.match-get_mut.branch [
       let was = found inside c.args.self.now c.args.from (Some w.in-Some.end.now) c.self.view_is w.in-Some.ensures.value in
       let u = (c.get_mut.follows.holds w.let_go.new.self).3 (sym (ap is_some w.in-Some.ensures.value)) in
       let is = here c.args.self.now new c.args.from (Some w.let_go.new.self) (written inside c.args.self.now new c.args.from (Some w.let_go.new.self) c.self.view_is u.0) in
-      rw w.self-inside-is (both LetsGo _ _ _ _ (ap received was) (ap received is) (λ i. record { taken = w.let_go.ensures.number i; next = w.let_go.ensures.next i }))
+      rw w.self-inside-is (both LetsGo _ _ _ _ (ap received was) (ap received is) (λ i. record { taken = w.let_go.ensures.number i; pieces = w.let_go.ensures.pieces i; next = w.let_go.ensures.next i }))
   | in-None w ↦
       let inside = c.self.inside.ends.entries in
       let was = found inside inside c.args.from None refl w.in-None.ensures.value in

@@ -17,7 +17,7 @@ returns-clause-received c =
     let inside = c.self.inside.ends.entries in
     let new = c.insert.new.self.entries in
     new-received c.args.self.now new c.args.from.now c.new.result (none-found inside c.args.self.now c.args.from.now c.contains_key.result c.self.view_is c.contains_key.ensures c.if-contains_key.false)
-    (written inside c.args.self.now new c.args.from.now (Some c.new.result) c.self.view_is c.in_ok-insert.ensures.updates.0) c.new.ensures.number c.new.ensures.next
+    (written inside c.args.self.now new c.args.from.now (Some c.new.result) c.self.view_is c.in_ok-insert.ensures.updates.0) c.new.ensures.number c.new.ensures.pieces c.new.ensures.next
 
 pub returns-clause-others : goal.returns-clause-others
 returns-clause-others c =

@@ -21,6 +21,7 @@ returns-clause-takes c =
       in_turn = c.take.ensures.in_turn;
       read = c.take.ensures.read;
       counted = c.take.ensures.number;
+      pieces = c.take.ensures.pieces;
       left = c.take.ensures.left;
       took = c.take.ensures.took;
       idle = c.take.ensures.idle;

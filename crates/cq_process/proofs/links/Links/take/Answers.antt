@@ -20,4 +20,4 @@ pub returns-in-Err-clause-takes : goal.returns-in-Err-clause-takes
 returns-in-Err-clause-takes c = λ here.
     let was = received_from c.args.self.now.incoming c.args.from in
     subst (λ r. TakesPiece was r c.args.core.now c.args.core.now c.args.from c.args.number c.args.piece.now (Err (Unread NoMemory))) (sym (c.in-Err.ensures.received c.args.from))
-    (unread-taken was c.args.core.now c.args.from c.args.number c.args.piece.now (sym c.is_next.ensures ∙ c.if-not-is_next.false) (ap (λ o. (received o).next) c.in-Err.ensures.absent))
+    (unread-taken was c.args.core.now c.args.from c.args.number c.args.piece.now (sym c.is_next.ensures ∙ c.if-not-is_next.false) (ap (λ o. (received o).pieces) c.in-Err.ensures.absent) (ap (λ o. (received o).next) c.in-Err.ensures.absent))

@@ -11,7 +11,7 @@ use Rattle.cq_process.proofs.outgoing.Outgoing.throw_first.Goals as goal
 
 pub returns-clause-throws : goal.returns-clause-throws
 returns-clause-throws c =
-    let before : End = record { put = c.self.inside.put; held = c.self.inside.held; writer = c.self.inside.writer } in
+    let before : End = record { put = c.self.inside.put; pieces = c.self.inside.pieces; held = c.self.inside.held; writer = c.self.inside.writer } in
     subst (λ e. Throws c.args.core.now c.first_of.new.core c.args.to e c.throw_held.new.self) c.self.view_is
     (throws-held c.args.core.now c.first_of.new.core c.args.to before c.throw_held.new.self c.first_of.result (λ back is. c.first_of.ensures.passes back (is ∙ sym c.take.ensures.value)) c.throw_held.ensures.some c.throw_held.ensures.none c.throw_held.ensures.held)
 

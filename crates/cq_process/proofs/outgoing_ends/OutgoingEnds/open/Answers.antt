@@ -12,7 +12,7 @@ returns-clause-ok c =
     let new = c.insert.new.self.entries in
     let is = here c.args.self.now new c.args.to (Some c.new.result) (written c.self.inside.ends.entries c.args.self.now new c.args.to (Some c.new.result) c.self.view_is c.in_ok-insert.ensures.updates.0) in
     let was = none-there (end_of c.args.self.now c.args.to) (sym c.is_open.ensures ∙ c.if-is_open.false) in
-    both IsOpened _ _ _ _ was is (record { put = c.new.ensures.number; held = c.new.ensures.held; fresh = c.new.ensures.begins })
+    both IsOpened _ _ _ _ was is (record { put = c.new.ensures.number; pieces = c.new.ensures.pieces; held = c.new.ensures.held; fresh = c.new.ensures.begins })
 
 pub returns-clause-others : goal.returns-clause-others
 returns-clause-others c =
