@@ -31,9 +31,6 @@ use Rattle.cq_server_process.specs.Answers.{Answers, Beside, GoesAway, GoesOn, G
 use Rattle.cq_server_process.specs.Turns.{at, frames}
 use Rattle.cq_wire.specs.declared.fault.ReadFault.{ReadFault}
 use Rattle.cq_wire.specs.declared.fault.ReadFault.TheVariants as read_faults
-use Rattle.cq_wire.specs.declared.fault.WireFault.{WireFault}
-use Rattle.cq_wire.specs.declared.fault.WireFault.TheVariants.{BadNumber}
-use Rattle.cq_wire.specs.Faults.{wire_code}
 use Rattle.cq_wire.specs.Reading.{Fails, whole_at}
 use Rattle.cq_wire.proofs.Fronts.{ok_is}
 use Rattle.cq_process_laws.specs.Deeds.{Acted, AllTo, IsInTurns, Came, Deed, Lost, Missed, Read, Rested, responses_in}

@@ -1,8 +1,7 @@
 -- What deeds take from a party, and the pieces that came from it.
-use Rattle.std.proofs.Common.{◌≡◌, ℕ, ◌+◌, ◌<◌, ◌==◌, ◌∙◌, ap, sym, refl, subst, cond, List, [], ◌∷◌, ◌++◌, append_assoc, append-nil, length, Bool, true, false, Option, None, inl, inr, Ok, arith, Some}
+use Rattle.std.proofs.Common.{◌≡◌, ℕ, ◌+◌, ◌∙◌, ap, sym, refl, subst, cond, List, [], ◌∷◌, ◌++◌, append_assoc, append-nil, length, Bool, true, false, Option, None, inl, inr, Ok, arith, Some}
 use Rattle.std.specs.Prelude.{◌⊎◌, flat_map, if◌then◌else◌}
 use Rattle.std.proofs.lemmas.Bool.{ne_eqb, true≢false}
-use Rattle.std.proofs.lemmas.List.Concat.{flat_map-append}
 use Rattle.cq_base.specs.declared.party.Party.{Party}
 use Rattle.cq_base.specs.Relations.{Among}
 use Rattle.cq_chain.specs.declared.message.Message.{Message}

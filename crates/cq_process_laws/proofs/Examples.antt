@@ -1,5 +1,5 @@
 -- Short lists of deeds, and what is read off them by the definitions.
-use Rattle.std.proofs.Common.{◌≡◌, List, [], ◌∷◌, true, false, None, Some, refl}
+use Rattle.std.proofs.Common.{◌≡◌, List, [], ◌∷◌, None, Some, refl}
 use Rattle.cq_base.specs.declared.party.Party.TheVariants.{Master, Clients, Server}
 use Rattle.cq_chain.specs.declared.message.Message.TheVariants as stored
 use Rattle.cq_events.specs.Actions.{Put, Took, put_to, taken_from}

@@ -5,7 +5,6 @@ use Rattle.cq_base.specs.declared.party.Party.{Party}
 use Rattle.cq_chain.specs.declared.message.Message as rust
 use Rattle.cq_chain.specs.declared.server.Server as rust_server
 use Rattle.cq_chain.specs.Stands as chain
-use Rattle.cq_chain_wire.specs.declared.reader.Progress.{Progress}
 use Rattle.cq_chain_wire.specs.declared.reader.Progress.TheVariants.{More, Whole}
 use Rattle.cq_events.specs.Actions.{Action, Arrived, Asked, Crashed, Detected, Joined, Put, Took, CoreState, Keeps, StandsAs}
 use Rattle.cq_events.specs.Acts.{ServerActs}

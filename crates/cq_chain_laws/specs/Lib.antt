@@ -1,0 +1,5 @@
+pub mod Masters
+pub mod Chains
+pub mod Serving
+pub mod Kept
+pub mod Laws
