@@ -1,0 +1,289 @@
+//! What `cq server` and `cq master` are told, and what they tell, as bytes (docs/WIRE.md, "Commands, responses and
+//! frames").
+
+use std::collections::HashMap;
+use std::fmt;
+
+use bytes::Bytes;
+
+use crate::parts::{frame, Malformed, Parts, Reader};
+
+/// Whether takes and puts bear the index of the piece in its message.
+const INDEXED: bool = false;
+
+/// There was no memory for the command.
+pub const NO_MEMORY: u32 = 20;
+/// The process isn't the head of its chain.
+pub const NOT_HEAD: u32 = 40;
+/// The message isn't the next one of its link, or its sender is gone.
+pub const NOT_NEXT: u32 = 45;
+/// What was read of the message is let go.
+pub const BEGIN_AGAIN: u32 = 48;
+/// The piece isn't one of a message.
+pub const UNREADABLE: std::ops::RangeInclusive<u32> = 91..=96;
+
+/// One end of a link.
+#[derive(Clone, Copy, Debug, PartialEq, Eq, Hash, PartialOrd, Ord)]
+pub enum Party {
+    Master,
+    Clients,
+    Server(u32),
+}
+
+impl fmt::Display for Party {
+    fn fmt(&self, out: &mut fmt::Formatter<'_>) -> fmt::Result {
+        match self {
+            Party::Master => out.write_str("the master"),
+            Party::Clients => out.write_str("the clients"),
+            Party::Server(server) => write!(out, "server {server}"),
+        }
+    }
+}
+
+/// Where a piece stands: the number of its message on its link, and how many pieces of that message are before it.
+#[derive(Clone, Copy, Debug, PartialEq, Eq, PartialOrd, Ord)]
+pub struct Place {
+    pub number: u64,
+    pub index: u64,
+}
+
+/// What a process is told.
+#[derive(Clone, Debug, PartialEq, Eq)]
+pub enum Command {
+    /// A request, as it is written.
+    Arrive {
+        clock: u64,
+        request: Bytes,
+    },
+    /// A query, as it is written.
+    Ask {
+        query: Bytes,
+    },
+    Take {
+        from: Party,
+        place: Place,
+        piece: Bytes,
+    },
+    Detect(u32),
+    Join(u32),
+    More(Party),
+    Gone(u32),
+}
+
+/// What a process tells.
+#[derive(Clone, Debug, PartialEq, Eq)]
+pub enum Response {
+    Put { to: Party, place: Place, piece: Bytes },
+    Refused(u32),
+    Unread(u32),
+    Waiting(Party),
+    Done(Standing),
+    Heard,
+}
+
+/// Where a server stands.
+#[derive(Clone, Copy, Debug, Default, PartialEq, Eq)]
+pub struct Standing {
+    pub count: u64,
+    pub acked: u64,
+    pub last: u64,
+    pub is_head: bool,
+    pub is_acting: bool,
+    pub is_full: bool,
+}
+
+impl Command {
+    pub fn frame(&self) -> Vec<u8> {
+        match self {
+            Command::Arrive { clock, request } => frame(0, |out| {
+                out.number64(*clock);
+                out.extend_from_slice(request);
+            }),
+            Command::Ask { query } => frame(1, |out| out.extend_from_slice(query)),
+            Command::Take { from, place, piece } => frame(2, |out| {
+                put_party(out, *from);
+                out.number64(place.number);
+                if INDEXED {
+                    out.number64(place.index);
+                }
+                out.run(piece);
+            }),
+            Command::Detect(server) => frame(3, |out| out.number32(*server)),
+            Command::Join(server) => frame(4, |out| out.number32(*server)),
+            Command::More(to) => frame(5, |out| put_party(out, *to)),
+            Command::Gone(server) => frame(6, |out| out.number32(*server)),
+        }
+    }
+}
+
+impl Response {
+    pub fn frame(&self) -> Vec<u8> {
+        match self {
+            Response::Put { to, place, piece } => frame(0, |out| {
+                put_party(out, *to);
+                out.number64(place.number);
+                if INDEXED {
+                    out.number64(place.index);
+                }
+                out.run(piece);
+            }),
+            Response::Refused(code) => frame(1, |out| out.number32(*code)),
+            Response::Unread(code) => frame(2, |out| out.number32(*code)),
+            Response::Waiting(party) => frame(3, |out| put_party(out, *party)),
+            Response::Done(standing) => frame(5, |out| {
+                [standing.count, standing.acked, standing.last].into_iter().for_each(|number| out.number64(number));
+                [standing.is_head, standing.is_acting, standing.is_full].into_iter().for_each(|flag| out.flag(flag));
+            }),
+            Response::Heard => frame(6, |_| {}),
+        }
+    }
+
+    /// Whether it ends the answer to a command.
+    pub fn is_last(&self) -> bool {
+        !matches!(self, Response::Put { .. } | Response::Waiting(_))
+    }
+}
+
+/// Reads what a process tells.
+#[derive(Default)]
+pub struct Responses {
+    /// Where the last piece for each party stood.
+    last: HashMap<Party, Place>,
+}
+
+impl Responses {
+    pub fn read(&mut self, bytes: Bytes) -> Result<Response, Malformed> {
+        let mut reader = Reader::of_frame(bytes)?;
+        let response = match reader.byte()? {
+            0 => self.put(&mut reader)?,
+            1 => Response::Refused(reader.number32()?),
+            2 => Response::Unread(reader.number32()?),
+            3 => Response::Waiting(party(&mut reader)?),
+            5 => Response::Done(standing(&mut reader)?),
+            6 => Response::Heard,
+            _ => return Err(Malformed("its kind is none of a response")),
+        };
+        reader.end()?;
+        Ok(response)
+    }
+
+    fn put(&mut self, reader: &mut Reader) -> Result<Response, Malformed> {
+        let to = party(reader)?;
+        let number = reader.number64()?;
+        let index = if INDEXED { reader.number64()? } else { self.next_index(to, number) };
+        let place = Place { number, index };
+        self.last.insert(to, place);
+        Ok(Response::Put { to, place, piece: reader.run()? })
+    }
+
+    fn next_index(&self, to: Party, number: u64) -> u64 {
+        match self.last.get(&to) {
+            Some(last) if last.number == number => last.index + 1,
+            _ => 0,
+        }
+    }
+}
+
+fn standing(reader: &mut Reader) -> Result<Standing, Malformed> {
+    Ok(Standing {
+        count: reader.number64()?,
+        acked: reader.number64()?,
+        last: reader.number64()?,
+        is_head: reader.flag()?,
+        is_acting: reader.flag()?,
+        is_full: reader.flag()?,
+    })
+}
+
+fn put_party(out: &mut Vec<u8>, party: Party) {
+    match party {
+        Party::Master => out.push(0),
+        Party::Clients => out.push(1),
+        Party::Server(server) => {
+            out.push(2);
+            out.number32(server);
+        }
+    }
+}
+
+fn party(reader: &mut Reader) -> Result<Party, Malformed> {
+    match reader.byte()? {
+        0 => Ok(Party::Master),
+        1 => Ok(Party::Clients),
+        2 => Ok(Party::Server(reader.server()?)),
+        _ => Err(Malformed("it names no party")),
+    }
+}
+
+/// What a host has to know of a message: it reads the others for the master and for clients alone.
+#[derive(Clone, Copy, Debug, PartialEq, Eq)]
+pub enum Message {
+    Adopted {
+        successor: u32,
+    },
+    Caught {
+        predecessor: u32,
+    },
+    Ready,
+    Answer {
+        client: u32,
+    },
+    /// A piece of a snapshot that isn't its last.
+    Chunk,
+    Other,
+}
+
+impl Message {
+    pub fn read(piece: &Bytes) -> Result<Message, Malformed> {
+        let mut reader = Reader::of_frame(piece.clone())?;
+        Ok(match reader.byte()? {
+            1 => Message::Chunk,
+            9 => Message::Adopted { successor: reader.server()? },
+            10 => Message::Caught { predecessor: reader.server()? },
+            11 => Message::Ready,
+            12 => Message::Answer { client: reader.number32()? },
+            _ => Message::Other,
+        })
+    }
+
+    /// Whether a message ends with the piece.
+    pub fn ends_with(piece: &Bytes) -> bool {
+        !matches!(Message::read(piece), Ok(Message::Chunk))
+    }
+}
+
+#[cfg(test)]
+mod tests {
+    use super::*;
+
+    #[test]
+    fn a_command_is_that_of_the_page() {
+        assert_eq!(Command::Detect(7).frame(), [6, 0, 0, 0, 1, 3, 7, 0, 0, 0]);
+        let more = Command::More(Party::Server(258)).frame();
+        assert_eq!(more, [7, 0, 0, 0, 1, 5, 2, 2, 1, 0, 0]);
+    }
+
+    #[test]
+    fn a_response_is_read_as_it_was_written() {
+        let mut responses = Responses::default();
+        let put = |number: u64, index: u64| Response::Put {
+            to: Party::Server(2),
+            place: Place { number, index },
+            piece: Bytes::from_static(&[1, 1]),
+        };
+        let standing = Standing { count: 5, acked: 4, last: 3, is_head: true, is_acting: false, is_full: true };
+        let puts = [put(1, 0), put(2, 0), put(2, 1), put(2, 2), put(3, 0)];
+        let others = [Response::Refused(20), Response::Unread(91), Response::Waiting(Party::Clients), Response::Heard];
+        for response in puts.into_iter().chain(others).chain([Response::Done(standing)]) {
+            let bytes = Bytes::from(response.frame()).slice(4..);
+            assert_eq!(responses.read(bytes), Ok(response));
+        }
+    }
+
+    #[test]
+    fn a_response_that_is_none_is_refused() {
+        for bytes in [&[][..], &[1], &[2, 6], &[1, 7], &[1, 6, 0], &[1, 0, 3], &[1, 0, 2, 0, 0, 0, 0]] {
+            assert!(Responses::default().read(Bytes::copy_from_slice(bytes)).is_err(), "{bytes:?}");
+        }
+    }
+}

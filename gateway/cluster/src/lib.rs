@@ -1,0 +1,17 @@
+//! Nodes and masters of a chain of servers on several machines (docs/CLUSTER.md).
+//!
+//! A node (`node`) runs one `cq server` (`child`, `commands`) and carries what it puts to the others by links (`link`,
+//! `wire`). A candidate for the master (`master`) appends lines (`decision`, of what `silence` and `roster` say) to a log
+//! in etcd (`etcd`, `records`). Two rules are kept: no clock and no lease is part of what keeps data safe, and a server
+//! ends only because the log says so, or by a fault of its own.
+
+mod commands;
+mod parts;
+mod wire;
+
+use std::sync::{Mutex, MutexGuard, PoisonError};
+
+/// What a lock protects, also behind a thread that panicked: all that is kept here is whole between two statements.
+fn lock<T>(mutex: &Mutex<T>) -> MutexGuard<'_, T> {
+    mutex.lock().unwrap_or_else(PoisonError::into_inner)
+}
