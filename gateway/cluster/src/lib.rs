@@ -5,6 +5,7 @@
 //! in etcd (`etcd`, `records`). Two rules are kept: no clock and no lease is part of what keeps data safe, and a server
 //! ends only because the log says so, or by a fault of its own.
 
+mod child;
 mod commands;
 mod parts;
 mod wire;
