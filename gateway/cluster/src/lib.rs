@@ -7,7 +7,9 @@
 
 mod child;
 mod commands;
+mod etcd;
 mod parts;
+mod records;
 mod wire;
 
 use std::sync::{Mutex, MutexGuard, PoisonError};

@@ -1,0 +1,300 @@
+//! A client of etcd, by its HTTP and JSON gateway.
+//!
+//! A member that doesn't answer within a short time is left for the next one. A transaction whose answer is lost may
+//! have happened: what its caller reads next says so.
+
+use std::net::IpAddr;
+use std::sync::atomic::{AtomicUsize, Ordering};
+use std::sync::Arc;
+use std::time::Duration;
+
+use anyhow::{anyhow, bail, Result};
+use hyper::body::HttpBody;
+use hyper::client::HttpConnector;
+use hyper::{Body, Client, Request, Response, Uri};
+use serde_json::{json, Value};
+use thiserror::Error;
+use tokio::sync::Notify;
+use tokio::time::{sleep, timeout};
+
+/// A member has so long to answer.
+const PATIENCE: Duration = Duration::from_millis(400);
+
+/// A watch that says nothing for so long is begun anew, at the next member.
+const QUIET: Duration = Duration::from_secs(5);
+
+/// No answer is longer.
+const LONGEST_ANSWER: usize = 64 << 20;
+
+/// Why there is no answer.
+#[derive(Debug, Error)]
+pub enum EtcdError {
+    #[error("no member of etcd answers: {0}")]
+    Unreachable(String),
+    #[error("etcd refuses a request: {0}")]
+    Refused(String),
+}
+
+/// What has to be so for a transaction to happen.
+#[derive(Clone, Debug, PartialEq, Eq)]
+pub enum Guard {
+    IsAbsent(String),
+    IsPresent(String),
+    /// The key was last changed by that revision; 0 if it isn't there.
+    IsOfRevision(String, i64),
+    Is(String, String),
+}
+
+/// What a transaction does.
+#[derive(Clone, Debug, PartialEq, Eq)]
+pub enum Operation {
+    Put(String, String),
+    Get(String),
+    /// The keys from the first one up to, and without, the second one, at most so many; all for 0.
+    Range(String, String, u32),
+    DeleteRange(String, String),
+}
+
+/// A key as it was read.
+#[derive(Clone, Debug, PartialEq, Eq)]
+pub struct Entry {
+    pub key: String,
+    pub value: String,
+    pub revision: i64,
+}
+
+/// What came of a transaction.
+#[derive(Debug)]
+pub struct Outcome {
+    /// Whether its guards held.
+    pub succeeded: bool,
+    /// What each operation read, in their order.
+    pub read: Vec<Vec<Entry>>,
+}
+
+/// The members of one etcd.
+#[derive(Clone)]
+pub struct Etcd {
+    client: Client<HttpConnector>,
+    members: Arc<Vec<String>>,
+    at: Arc<AtomicUsize>,
+}
+
+impl Etcd {
+    /// Members by their URLs. Without certificates they are on this machine.
+    pub fn new(urls: &[String]) -> Result<Etcd> {
+        if urls.is_empty() {
+            bail!("no URL of etcd is given");
+        }
+        let members = urls.iter().map(|url| loopback(url)).collect::<Result<Vec<_>>>()?;
+        let mut connector = HttpConnector::new();
+        connector.set_nodelay(true);
+        connector.set_connect_timeout(Some(PATIENCE));
+        let at = rand::random::<usize>() % members.len();
+        let client = Client::builder().pool_max_idle_per_host(2).build(connector);
+        Ok(Etcd { client, members: Arc::new(members), at: Arc::new(AtomicUsize::new(at)) })
+    }
+
+    /// What is done if all guards hold, and else.
+    pub async fn transact(
+        &self,
+        guards: &[Guard],
+        then: &[Operation],
+        otherwise: &[Operation],
+    ) -> Result<Outcome, EtcdError> {
+        let body = json!({
+            "compare": guards.iter().map(Guard::json).collect::<Vec<_>>(),
+            "success": then.iter().map(Operation::json).collect::<Vec<_>>(),
+            "failure": otherwise.iter().map(Operation::json).collect::<Vec<_>>(),
+        })
+        .to_string();
+        let mut why = String::new();
+        for _ in 0..self.members.len() {
+            let member = self.at.load(Ordering::Relaxed) % self.members.len();
+            match timeout(PATIENCE, self.post(member, "/v3/kv/txn", body.clone())).await {
+                Ok(Ok(answer)) => return outcome(&answer).ok_or_else(|| EtcdError::Refused("it is no answer".into())),
+                Ok(Err(EtcdError::Refused(said))) => why = said,
+                Ok(Err(EtcdError::Unreachable(said))) => why = said,
+                Err(_) => why = format!("{} is silent", self.members[member]),
+            }
+            self.leave(member);
+        }
+        Err(EtcdError::Unreachable(why))
+    }
+
+    /// The next request goes to the next member, unless another task has left this one.
+    fn leave(&self, member: usize) {
+        let next = (member + 1) % self.members.len();
+        let _ = self.at.compare_exchange(member, next, Ordering::Relaxed, Ordering::Relaxed);
+    }
+
+    async fn ask(&self, member: usize, path: &str, body: String) -> Result<Response<Body>, EtcdError> {
+        let unreachable = |error: &dyn std::fmt::Display| EtcdError::Unreachable(error.to_string());
+        let request = Request::post(format!("{}{path}", self.members[member]))
+            .header("content-type", "application/json")
+            .body(Body::from(body))
+            .map_err(|error| unreachable(&error))?;
+        self.client.request(request).await.map_err(|error| unreachable(&error))
+    }
+
+    async fn post(&self, member: usize, path: &str, body: String) -> Result<Value, EtcdError> {
+        let mut answer = self.ask(member, path, body).await?;
+        let mut bytes = Vec::new();
+        while let Some(chunk) = answer.body_mut().data().await {
+            bytes.extend_from_slice(&chunk.map_err(|error| EtcdError::Unreachable(error.to_string()))?);
+            if bytes.len() > LONGEST_ANSWER {
+                return Err(EtcdError::Refused("its answer is too long".into()));
+            }
+        }
+        if !answer.status().is_success() {
+            let said = String::from_utf8_lossy(&bytes[..bytes.len().min(300)]).trim().to_string();
+            return Err(EtcdError::Refused(said));
+        }
+        serde_json::from_slice(&bytes).map_err(|error| EtcdError::Refused(error.to_string()))
+    }
+
+    /// Calls for a look whenever something under the prefix may have changed. Nobody waits for that alone.
+    pub async fn watch(self, prefix: String, look: Arc<Notify>) {
+        loop {
+            let member = self.at.load(Ordering::Relaxed) % self.members.len();
+            // Whatever ends it, the next one begins at once.
+            let _ = self.watch_at(member, &prefix, &look).await;
+            sleep(Duration::from_millis(100)).await;
+        }
+    }
+
+    async fn watch_at(&self, member: usize, prefix: &str, look: &Notify) -> Result<()> {
+        let asked =
+            json!({"create_request": {"key": base64::encode(prefix), "range_end": base64::encode(behind(prefix))}});
+        let answer = timeout(PATIENCE, self.ask(member, "/v3/watch", asked.to_string())).await??;
+        let mut body = answer.into_body();
+        while let Some(chunk) = timeout(QUIET, body.data()).await? {
+            chunk?;
+            look.notify_one();
+        }
+        Ok(())
+    }
+}
+
+/// The first text behind all that begin with the prefix, which ends with a letter or a mark of ASCII.
+pub fn behind(prefix: &str) -> String {
+    let mut bytes = prefix.as_bytes().to_vec();
+    if let Some(last) = bytes.last_mut() {
+        *last += 1;
+    }
+    String::from_utf8_lossy(&bytes).into_owned()
+}
+
+fn loopback(url: &str) -> Result<String> {
+    let uri: Uri = url.parse().map_err(|_| anyhow!("{url} is no URL"))?;
+    if uri.scheme_str() != Some("http") {
+        bail!("{url} isn't of http: there are no certificates yet, so etcd is on this machine");
+    }
+    let host = uri.host().unwrap_or_default().trim_start_matches('[').trim_end_matches(']');
+    let is_here = host == "localhost" || host.parse::<IpAddr>().is_ok_and(|address| address.is_loopback());
+    if !is_here {
+        bail!("{url} isn't on this machine: without certificates, which aren't there yet, etcd has a loopback address");
+    }
+    Ok(url.trim_end_matches('/').to_string())
+}
+
+impl Guard {
+    fn json(&self) -> Value {
+        match self {
+            Guard::IsAbsent(key) => {
+                json!({"key": base64::encode(key), "target": "VERSION", "result": "EQUAL", "version": "0"})
+            }
+            Guard::IsPresent(key) => {
+                json!({"key": base64::encode(key), "target": "VERSION", "result": "GREATER", "version": "0"})
+            }
+            Guard::IsOfRevision(key, revision) => json!({
+                "key": base64::encode(key), "target": "MOD", "result": "EQUAL", "mod_revision": revision.to_string(),
+            }),
+            Guard::Is(key, value) => json!({
+                "key": base64::encode(key), "target": "VALUE", "result": "EQUAL", "value": base64::encode(value),
+            }),
+        }
+    }
+}
+
+impl Operation {
+    fn json(&self) -> Value {
+        match self {
+            Operation::Put(key, value) => {
+                json!({"request_put": {"key": base64::encode(key), "value": base64::encode(value)}})
+            }
+            Operation::Get(key) => json!({"request_range": {"key": base64::encode(key)}}),
+            Operation::Range(from, to, limit) => json!({"request_range": {
+                "key": base64::encode(from), "range_end": base64::encode(to), "limit": limit.to_string(),
+            }}),
+            Operation::DeleteRange(from, to) => {
+                json!({"request_delete_range": {"key": base64::encode(from), "range_end": base64::encode(to)}})
+            }
+        }
+    }
+
+    /// Takes away a key, if it is there.
+    pub fn delete(key: &str) -> Operation {
+        Operation::DeleteRange(key.into(), format!("{key}\0"))
+    }
+
+    /// All keys that begin with the prefix.
+    pub fn all(prefix: &str) -> Operation {
+        Operation::Range(prefix.into(), behind(prefix), 0)
+    }
+}
+
+/// What the gateway of etcd tells: a field that is false, zero or empty isn't there, and numbers are texts.
+fn outcome(answer: &Value) -> Option<Outcome> {
+    answer.get("header")?;
+    let succeeded = answer.get("succeeded").and_then(Value::as_bool).unwrap_or(false);
+    let responses = answer.get("responses").and_then(Value::as_array).cloned().unwrap_or_default();
+    let read = responses.iter().map(|one| entries(&one["response_range"]["kvs"])).collect::<Option<_>>()?;
+    Some(Outcome { succeeded, read })
+}
+
+fn entries(found: &Value) -> Option<Vec<Entry>> {
+    found.as_array().map_or(Some(Vec::new()), |found| found.iter().map(entry).collect())
+}
+
+fn entry(found: &Value) -> Option<Entry> {
+    let text = |name: &str| {
+        let bytes = base64::decode(found.get(name).and_then(Value::as_str).unwrap_or_default()).ok()?;
+        String::from_utf8(bytes).ok()
+    };
+    let revision = found.get("mod_revision")?.as_str()?.parse().ok()?;
+    Some(Entry { key: text("key")?, value: text("value")?, revision })
+}
+
+#[cfg(test)]
+mod tests {
+    use super::*;
+
+    #[test]
+    fn an_answer_without_its_empty_fields_is_read() {
+        let answer = json!({"header": {"revision": "7"}, "responses": [
+            {"response_put": {}},
+            {"response_range": {"kvs": [{"key": base64::encode("a"), "mod_revision": "5", "value": base64::encode("b")}]}},
+            {"response_range": {}},
+        ]});
+        let outcome = outcome(&answer).unwrap();
+        assert!(!outcome.succeeded);
+        let read = Entry { key: "a".into(), value: "b".into(), revision: 5 };
+        assert_eq!(outcome.read, [vec![], vec![read], vec![]]);
+    }
+
+    #[test]
+    fn what_is_no_answer_is_told() {
+        assert!(outcome(&json!({"error": "x"})).is_none());
+        let bad = json!({"header": {}, "responses": [{"response_range": {"kvs": [{"key": "%"}]}}]});
+        assert!(outcome(&bad).is_none());
+    }
+
+    #[test]
+    fn other_machines_are_refused() {
+        let refused = |url: &str| Etcd::new(&[url.to_string()]).is_err();
+        assert!(refused("http://10.0.0.1:2379") && refused("https://127.0.0.1:2379") && refused("x y"));
+        assert!(!refused("http://127.0.0.1:2379") && !refused("http://[::1]:2379/") && !refused("http://localhost:1"));
+        assert!(Etcd::new(&[]).is_err());
+    }
+}

@@ -1,0 +1,321 @@
+//! What stands in etcd: the keys of a cluster, and their values in JSON.
+
+use std::net::SocketAddr;
+
+use anyhow::{anyhow, bail, Context, Result};
+use bytes::Bytes;
+use serde::{Deserialize, Serialize};
+
+use crate::etcd::{behind, Entry, Etcd, Guard, Operation};
+
+/// The version of all that is here.
+const VERSION: u32 = 1;
+
+/// No name of a cluster is longer.
+const LONGEST_NAME: usize = 64;
+
+/// What makes a cluster.
+#[derive(Clone, Debug, PartialEq, Eq, Serialize, Deserialize)]
+pub struct Settings {
+    pub version: u32,
+    /// Made at random with the cluster. Each transaction and each handshake is about it.
+    pub incarnation: String,
+    /// How many servers its first chain has.
+    pub servers: u32,
+}
+
+/// The chain behind a line of the master's log.
+#[derive(Clone, Debug, PartialEq, Eq, Serialize, Deserialize)]
+pub struct Chain {
+    pub line: u64,
+    pub members: Vec<u32>,
+    pub joiner: Option<u32>,
+    /// Whether the last member is known to act.
+    pub is_ready: bool,
+    /// The members that are known to be full, by the log.
+    pub full: Vec<u32>,
+    /// All servers that are or were members or joiners.
+    pub used: Vec<u32>,
+}
+
+/// A line of the master's log.
+#[derive(Clone, Debug, PartialEq, Eq, Serialize, Deserialize)]
+#[serde(rename_all = "snake_case")]
+pub enum Line {
+    Detect {
+        server: u32,
+    },
+    Join {
+        server: u32,
+    },
+    /// A message of a server is taken.
+    Take {
+        server: u32,
+        number: u64,
+        piece: Piece,
+    },
+}
+
+/// The bytes of a message, which stand in JSON by base64.
+#[derive(Clone, Debug, PartialEq, Eq, Serialize, Deserialize)]
+#[serde(try_from = "String", into = "String")]
+pub struct Piece(pub Bytes);
+
+impl TryFrom<String> for Piece {
+    type Error = base64::DecodeError;
+
+    fn try_from(text: String) -> Result<Piece, base64::DecodeError> {
+        Ok(Piece(base64::decode(text)?.into()))
+    }
+}
+
+impl From<Piece> for String {
+    fn from(piece: Piece) -> String {
+        base64::encode(&piece.0)
+    }
+}
+
+/// What a node says of itself each half second.
+#[derive(Clone, Debug, Default, PartialEq, Eq, Serialize, Deserialize)]
+pub struct Beat {
+    /// Raised by each beat.
+    pub number: u64,
+    /// Whether it wants to join.
+    pub joins: bool,
+    pub count: u64,
+    pub acked: u64,
+    pub is_head: bool,
+    pub is_acting: bool,
+    pub is_full: bool,
+    /// So many messages of the master it has taken.
+    pub took: u64,
+    /// From whom something came by a link within the last second.
+    pub hears: Vec<u32>,
+    /// So many clients are connected.
+    pub clients: usize,
+}
+
+/// A process that has a number.
+#[derive(Clone, Debug, PartialEq, Eq, Serialize, Deserialize)]
+pub struct Registration {
+    /// Made at random by the process.
+    pub nonce: String,
+    pub address: SocketAddr,
+}
+
+/// The keys of a cluster.
+#[derive(Clone, Debug)]
+pub struct Keys {
+    /// The key of its settings.
+    pub cluster: String,
+    root: String,
+}
+
+impl Keys {
+    fn new(name: &str, incarnation: &str) -> Keys {
+        let cluster = format!("hobbychair/{name}/cluster");
+        Keys { cluster, root: format!("hobbychair/{name}/{incarnation}") }
+    }
+
+    /// The next number of a server.
+    pub fn next(&self) -> String {
+        format!("{}/next", self.root)
+    }
+
+    pub fn nodes(&self) -> String {
+        format!("{}/node/", self.root)
+    }
+
+    pub fn node(&self, server: u32) -> String {
+        format!("{}/node/{server:010}", self.root)
+    }
+
+    pub fn beats(&self) -> String {
+        format!("{}/beat/", self.root)
+    }
+
+    pub fn beat(&self, server: u32) -> String {
+        format!("{}/beat/{server:010}", self.root)
+    }
+
+    /// What is watched: all of the keys that follow.
+    pub fn master(&self) -> String {
+        format!("{}/master/", self.root)
+    }
+
+    pub fn chain(&self) -> String {
+        format!("{}/master/chain", self.root)
+    }
+
+    pub fn line(&self, number: u64) -> String {
+        format!("{}/master/log/{number:020}", self.root)
+    }
+
+    /// The lines from a number on, at most so many.
+    pub fn lines_from(&self, number: u64, limit: u32) -> Operation {
+        Operation::Range(self.line(number), behind(&format!("{}/master/log/", self.root)), limit)
+    }
+
+    /// Messages of servers to the master.
+    pub fn letters(&self) -> String {
+        format!("{}/master/in/", self.root)
+    }
+
+    pub fn letter(&self, server: u32, number: u64) -> String {
+        format!("{}/master/in/{server:010}/{number:020}", self.root)
+    }
+
+    /// Takes away the letters of a server up to a number.
+    pub fn without_letters(&self, server: u32, number: u64) -> Operation {
+        Operation::DeleteRange(self.letter(server, 0), self.letter(server, number.saturating_add(1)))
+    }
+
+    /// A message of the master to a server.
+    pub fn order(&self, server: u32, number: u64) -> String {
+        format!("{}/master/out/{server:010}/{number:020}", self.root)
+    }
+
+    pub fn orders_from(&self, server: u32, number: u64) -> Operation {
+        let end = behind(&format!("{}/master/out/{server:010}/", self.root));
+        Operation::Range(self.order(server, number), end, 0)
+    }
+
+    pub fn all_detected(&self) -> String {
+        format!("{}/master/detected/", self.root)
+    }
+
+    pub fn detected(&self, server: u32) -> String {
+        format!("{}/master/detected/{server:010}", self.root)
+    }
+
+    pub fn all_condemned(&self) -> String {
+        format!("{}/master/condemned/", self.root)
+    }
+
+    pub fn condemned(&self, server: u32) -> String {
+        format!("{}/master/condemned/{server:010}", self.root)
+    }
+}
+
+/// The number with which a key ends.
+pub fn last_number<N: std::str::FromStr>(key: &str) -> Option<N> {
+    key.rsplit('/').next()?.parse().ok()
+}
+
+/// The server and the number of a message with which a key ends.
+pub fn server_and_number(key: &str) -> Option<(u32, u64)> {
+    let mut parts = key.rsplit('/');
+    let number = parts.next()?.parse().ok()?;
+    Some((parts.next()?.parse().ok()?, number))
+}
+
+/// What a key says. A value that can't be read is an error: nobody else writes there.
+pub fn value<T: for<'de> Deserialize<'de>>(entry: &Entry) -> Result<T> {
+    serde_json::from_str(&entry.value).with_context(|| format!("{} has a value that can't be read", entry.key))
+}
+
+/// The text of a value.
+pub fn text(value: &impl Serialize) -> String {
+    // Nothing here has keys that aren't texts, so this doesn't fail.
+    serde_json::to_string(value).unwrap_or_default()
+}
+
+/// A cluster that is there.
+#[derive(Clone)]
+pub struct Cluster {
+    pub name: String,
+    pub etcd: Etcd,
+    pub settings: Settings,
+    pub keys: Keys,
+}
+
+impl Cluster {
+    /// Finds the cluster, or says that there is none.
+    pub async fn find(name: &str, urls: &[String]) -> Result<Cluster> {
+        let etcd = Etcd::new(urls)?;
+        test_name(name)?;
+        let key = Keys::new(name, "").cluster;
+        let read = etcd.transact(&[], &[Operation::Get(key)], &[]).await?.read;
+        let found = read.first().and_then(|found| found.first());
+        let found = found.ok_or_else(|| anyhow!("there is no cluster {name}: hobbychair cluster create makes one"))?;
+        let settings: Settings = value(found)?;
+        if settings.version != VERSION {
+            bail!("cluster {name} is of version {}, and this program of version {VERSION}", settings.version);
+        }
+        let keys = Keys::new(name, &settings.incarnation);
+        Ok(Cluster { name: name.into(), etcd, settings, keys })
+    }
+
+    /// Makes a cluster whose first chain has so many servers.
+    pub async fn create(name: &str, urls: &[String], servers: u32) -> Result<Cluster> {
+        let etcd = Etcd::new(urls)?;
+        test_name(name)?;
+        let settings = Settings { version: VERSION, incarnation: random_name(), servers };
+        let keys = Keys::new(name, &settings.incarnation);
+        let members: Vec<u32> = (1..=servers).collect();
+        let full = members.clone();
+        let chain = Chain { line: 0, members: members.clone(), joiner: None, is_ready: true, full, used: members };
+        let put = [
+            Operation::Put(keys.cluster.clone(), text(&settings)),
+            Operation::Put(keys.next(), (servers + 1).to_string()),
+            Operation::Put(keys.chain(), text(&chain)),
+        ];
+        let guard = Guard::IsAbsent(keys.cluster.clone());
+        let outcome = etcd.transact(&[guard], &put, &[Operation::Get(keys.cluster.clone())]).await?;
+        let is_own = || outcome.read.iter().flatten().any(|found| found.value == text(&settings));
+        if !outcome.succeeded && !is_own() {
+            bail!("there is a cluster {name} already");
+        }
+        Ok(Cluster { name: name.into(), etcd, settings, keys })
+    }
+
+    /// That this cluster is still the one of its name.
+    pub fn guard(&self) -> Guard {
+        Guard::Is(self.keys.cluster.clone(), text(&self.settings))
+    }
+}
+
+/// A name that is used once.
+pub fn random_name() -> String {
+    format!("{:016x}", rand::random::<u64>())
+}
+
+fn test_name(name: &str) -> Result<()> {
+    let is_good = |letter: char| letter.is_ascii_alphanumeric() || letter == '-' || letter == '_';
+    if name.is_empty() || name.len() > LONGEST_NAME || !name.chars().all(is_good) {
+        bail!(
+            "{name:?} is no name of a cluster: that has 1 to {LONGEST_NAME} letters, digits, hyphens and underscores"
+        );
+    }
+    Ok(())
+}
+
+#[cfg(test)]
+mod tests {
+    use super::*;
+
+    #[test]
+    fn keys_stand_in_the_order_of_their_numbers() {
+        let keys = Keys::new("c", "0");
+        assert!(keys.line(9) < keys.line(10) && keys.letter(9, 9) < keys.letter(10, 1));
+        assert_eq!(server_and_number(&keys.letter(7, 12)), Some((7, 12)));
+        assert_eq!(last_number(&keys.detected(8)), Some(8u32));
+        assert_eq!(last_number::<u32>("hobbychair/c/0/next"), None);
+    }
+
+    #[test]
+    fn a_line_is_read_as_it_was_written() {
+        let line = Line::Take { server: 3, number: 7, piece: Piece(Bytes::from_static(&[1, 11])) };
+        assert_eq!(text(&line), r#"{"take":{"server":3,"number":7,"piece":"AQs="}}"#);
+        assert_eq!(serde_json::from_str::<Line>(&text(&line)).unwrap(), line);
+        assert!(serde_json::from_str::<Line>(r#"{"take":{"server":3,"number":7,"piece":"?"}}"#).is_err());
+    }
+
+    #[test]
+    fn names_are_tested() {
+        assert!(test_name("one-2_B").is_ok());
+        for name in ["", "a/b", "é", &"x".repeat(65)] {
+            assert!(test_name(name).is_err(), "{name}");
+        }
+    }
+}
