@@ -6,6 +6,7 @@
 //! ends only because the log says so, or by a fault of its own.
 
 mod child;
+mod clock;
 mod commands;
 mod etcd;
 mod parts;

@@ -1,0 +1,160 @@
+//! The cluster's time: what the head stamps requests with.
+//!
+//! It is a clock of the system that never steps, and an offset. The head takes its offset from the wall clock once, when
+//! nobody has told it a time before, and then goes towards the wall clock slowly. All others follow their predecessor.
+//! So a wall clock that is wrong changes nothing at once, and a new head goes on where the old one was. No time is
+//! part of what keeps data safe.
+
+use rustix::time::{clock_gettime, clock_gettime_dynamic, ClockId, DynamicClockId, Timespec};
+
+/// Of a hundred parts of time that pass, the offset changes by one at most.
+const SLOWEST: u64 = 100;
+
+/// A wall clock that is off by more is worth a line in the log, in milliseconds.
+const WORTH_SAYING: u64 = 5_000;
+
+/// The cluster's time, as one server knows it. All times are in milliseconds.
+#[derive(Debug, Default)]
+pub struct Clock {
+    /// What is added to the time since the system's start; nothing before a time was told.
+    offset: Option<i64>,
+    /// The moment of the last entry.
+    last: u64,
+    /// When the offset was changed slowly, by the time since the system's start.
+    changed: u64,
+    has_said: bool,
+}
+
+impl Clock {
+    /// The time at that moment since the system's start. It is never before the last entry.
+    pub fn now(&self, since_start: u64) -> u64 {
+        let offset = self.offset.unwrap_or_else(|| difference(0, since_start));
+        sum(since_start, offset).max(self.last)
+    }
+
+    /// An entry has this moment.
+    pub fn took(&mut self, moment: u64, since_start: u64) {
+        self.last = self.last.max(moment);
+        if moment > 0 && self.offset.map_or(true, |offset| sum(since_start, offset) < moment) {
+            self.offset = Some(difference(moment, since_start));
+        }
+    }
+
+    /// The predecessor says that it is this time.
+    pub fn follow(&mut self, time: u64, since_start: u64) {
+        if self.offset.map_or(true, |offset| sum(since_start, offset) < time) {
+            self.offset = Some(difference(time, since_start));
+            self.changed = since_start;
+        } else {
+            self.go_towards(time, since_start);
+        }
+    }
+
+    /// Of the head: the wall clock shows this time.
+    pub fn lead(&mut self, wall: u64, since_start: u64) {
+        if self.offset.is_none() {
+            self.offset = Some(difference(wall, since_start));
+            self.changed = since_start;
+            return;
+        }
+        let off = wall.abs_diff(self.now(since_start));
+        if off > WORTH_SAYING && !self.has_said {
+            tracing::warn!(
+                milliseconds = off,
+                "the wall clock and the cluster's time differ: they come together slowly"
+            );
+        }
+        self.has_said = off > WORTH_SAYING;
+        self.go_towards(wall, since_start);
+    }
+
+    fn go_towards(&mut self, time: u64, since_start: u64) {
+        let most = since_start.saturating_sub(self.changed) / SLOWEST;
+        if most == 0 {
+            return;
+        }
+        self.changed = since_start;
+        let most = i64::try_from(most).unwrap_or(i64::MAX);
+        if let Some(offset) = &mut self.offset {
+            *offset = offset.saturating_add(difference(time, sum(since_start, *offset)).clamp(-most, most));
+        }
+    }
+}
+
+fn difference(one: u64, other: u64) -> i64 {
+    let difference = i128::from(one) - i128::from(other);
+    difference.clamp(i64::MIN.into(), i64::MAX.into()) as i64
+}
+
+fn sum(time: u64, offset: i64) -> u64 {
+    if offset >= 0 {
+        time.saturating_add(offset.unsigned_abs())
+    } else {
+        time.saturating_sub(offset.unsigned_abs())
+    }
+}
+
+/// The time since the system's start, while it slept, too.
+pub fn since_start() -> u64 {
+    milliseconds(clock_gettime_dynamic(DynamicClockId::Boottime).unwrap_or_else(|_| clock_gettime(ClockId::Monotonic)))
+}
+
+/// What the wall clock shows.
+pub fn wall() -> u64 {
+    milliseconds(clock_gettime(ClockId::Realtime))
+}
+
+fn milliseconds(time: Timespec) -> u64 {
+    u64::try_from(time.tv_sec).unwrap_or(0) * 1000 + u64::try_from(time.tv_nsec).unwrap_or(0) / 1_000_000
+}
+
+#[cfg(test)]
+mod tests {
+    use super::*;
+
+    const WALL: u64 = 1_700_000_000_000;
+    const HOUR: u64 = 3_600_000;
+
+    #[test]
+    fn a_head_begins_at_the_wall_clock_and_never_steps() {
+        let mut clock = Clock::default();
+        clock.lead(WALL, 1_000);
+        assert_eq!(clock.now(1_500), WALL + 500);
+        // The wall clock steps by an hour, either way: a second later the clock is off by ten milliseconds at most.
+        clock.lead(WALL + HOUR, 2_000);
+        assert_eq!(clock.now(2_000), WALL + 1_000 + 10);
+        clock.lead(WALL - HOUR, 3_000);
+        assert_eq!(clock.now(3_000), WALL + 2_000);
+    }
+
+    #[test]
+    fn a_new_head_goes_on_where_the_old_one_was() {
+        let mut clock = Clock::default();
+        assert_eq!(clock.now(5), 0);
+        clock.follow(WALL, 1_000);
+        clock.lead(WALL + HOUR, 1_100);
+        assert!(clock.now(1_100) <= WALL + 101, "its own wall clock, which is an hour ahead, counts slowly");
+        clock.took(WALL + 50_000, 1_200);
+        assert_eq!(clock.now(1_300), WALL + 50_100);
+    }
+
+    #[test]
+    fn who_follows_is_not_set_back_by_what_comes_late() {
+        let mut clock = Clock::default();
+        clock.follow(WALL, 0);
+        // It was stopped for five seconds, and reads what was said when they began.
+        clock.follow(WALL + 10, 5_000);
+        assert!(clock.now(5_000) >= WALL + 4_900);
+        clock.follow(WALL + 5_000, 5_000);
+        assert_eq!(clock.now(5_000), WALL + 5_000);
+    }
+
+    #[test]
+    fn time_is_never_before_the_last_entry() {
+        let mut clock = Clock::default();
+        clock.took(WALL, 10);
+        clock.follow(WALL - HOUR, 1_000_000);
+        assert!(clock.now(1_000_000) >= WALL);
+        assert_eq!(Clock { last: 7, ..Clock::default() }.now(3), 7);
+    }
+}
