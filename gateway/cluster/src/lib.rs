@@ -8,9 +8,13 @@
 mod child;
 mod clock;
 mod commands;
+mod decision;
 mod etcd;
+mod master;
 mod parts;
 mod records;
+mod roster;
+mod silence;
 mod wire;
 
 use std::sync::{Mutex, MutexGuard, PoisonError};

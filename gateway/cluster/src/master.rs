@@ -1,0 +1,328 @@
+//! A candidate for the master. It leads nobody: it reads the log, and appends the next line where no other candidate has
+//! done so first. So any number of them run side by side.
+
+use std::collections::BTreeSet;
+use std::sync::Arc;
+use std::time::{Duration, Instant};
+
+use anyhow::{bail, Context, Result};
+use bytes::Bytes;
+use tokio::sync::mpsc::{unbounded_channel, UnboundedReceiver};
+use tokio::sync::Notify;
+use tokio::time::{sleep, timeout};
+
+use crate::child::{Child, Told};
+use crate::commands::{Command, Party, Place, Response};
+use crate::decision::{Decision, Letter, View};
+use crate::etcd::{Entry, EtcdError, Guard, Operation};
+use crate::records::{self, last_number, server_and_number, Beat, Cluster, Line, Piece};
+use crate::roster::Roster;
+use crate::silence::Silence;
+
+/// A candidate looks so often, and whenever something may have changed.
+const ROUND: Duration = Duration::from_millis(500);
+
+/// Behind a failed transaction it waits, so that another candidate is ahead for a while.
+const STEP_BACK: Duration = Duration::from_millis(60);
+
+/// So many lines are read at once.
+const LINES: u32 = 500;
+
+/// So long `cq master` may take to answer.
+const CHILD_PATIENCE: Duration = Duration::from_secs(30);
+
+/// A message that `cq master` puts for a server.
+#[derive(Clone, Debug)]
+struct Order {
+    server: u32,
+    number: u64,
+    piece: Bytes,
+}
+
+/// `cq master`, fed with the log.
+struct Core {
+    program: String,
+    servers: u32,
+    child: Child,
+    told: UnboundedReceiver<Told>,
+}
+
+impl Core {
+    fn start(program: &str, servers: u32) -> Result<Core> {
+        let (tell, told) = unbounded_channel();
+        let words = ["master".to_string(), "--servers".into(), servers.to_string()];
+        let child = Child::start(program, &words, move |one| drop(tell.send(one)))?;
+        Ok(Core { program: program.into(), servers, child, told })
+    }
+
+    /// The same from its start, fed with these lines.
+    async fn begin_anew(&mut self, lines: &[Line]) -> Result<()> {
+        *self = Core::start(&self.program, self.servers)?;
+        for line in lines {
+            self.feed(line).await?.context("the log has a line that cq master refuses")?;
+        }
+        Ok(())
+    }
+
+    /// What is put behind a line; nothing if the line is refused.
+    async fn feed(&mut self, line: &Line) -> Result<Option<Vec<Order>>> {
+        let (command, gone) = match line {
+            Line::Detect { server } => (Command::Detect(*server), Some(*server)),
+            Line::Join { server } => (Command::Join(*server), None),
+            Line::Take { server, number, piece: Piece(piece) } => {
+                let place = Place { number: *number, index: 0 };
+                (Command::Take { from: Party::Server(*server), place, piece: piece.clone() }, None)
+            }
+        };
+        let Some(mut orders) = self.ask(command).await? else { return Ok(None) };
+        if let Some(server) = gone {
+            orders.extend(self.ask(Command::Gone(server)).await?.unwrap_or_default());
+        }
+        Ok(Some(orders))
+    }
+
+    async fn ask(&mut self, command: Command) -> Result<Option<Vec<Order>>> {
+        self.child.give(command.frame());
+        let mut orders = Vec::new();
+        let mut waits = None;
+        loop {
+            match self.next(&mut orders, &mut waits).await? {
+                None => return Ok(None),
+                Some(false) => {}
+                Some(true) => match waits.take() {
+                    Some(party) => self.child.give(Command::More(party).frame()),
+                    None => return Ok(Some(orders)),
+                },
+            }
+        }
+    }
+
+    /// Hears some responses. Says whether an answer has ended, or nothing where the command was refused.
+    async fn next(&mut self, orders: &mut Vec<Order>, waits: &mut Option<Party>) -> Result<Option<bool>> {
+        let told = timeout(CHILD_PATIENCE, self.told.recv()).await.context("cq master doesn't answer")?;
+        let responses = match told {
+            Some(Told::Responses(responses)) => responses,
+            Some(Told::Ended(why)) => bail!("cq master is gone: {why}"),
+            None => bail!("cq master is gone"),
+        };
+        let mut has_ended = false;
+        for response in responses {
+            match response {
+                Response::Put { to: Party::Server(server), place, piece } => {
+                    orders.push(Order { server, number: place.number, piece });
+                }
+                Response::Waiting(party) => *waits = Some(party),
+                Response::Refused(code) | Response::Unread(code) => {
+                    tracing::debug!(code, "cq master refuses a line");
+                    return Ok(None);
+                }
+                response => has_ended |= response.is_last(),
+            }
+        }
+        Ok(Some(has_ended))
+    }
+}
+
+/// What was read in one round.
+struct Round {
+    lines: Vec<Line>,
+    beats: Vec<(u32, i64, Beat)>,
+    letters: Vec<Letter>,
+    condemned: BTreeSet<u32>,
+}
+
+/// One candidate.
+pub struct Master {
+    cluster: Cluster,
+    core: Core,
+    roster: Roster,
+    lines: Vec<Line>,
+    /// A line that `cq master` was fed with and of which isn't known whether it is in the log, with what it put.
+    open: Option<(Line, Vec<Order>)>,
+    silence: Silence,
+    begun: Instant,
+    why: Option<String>,
+    in_contact: bool,
+}
+
+/// Runs a candidate until its cluster is another one, or it fails.
+pub async fn run(cluster: Cluster, program: &str) -> Result<()> {
+    let look = Arc::new(Notify::new());
+    tokio::spawn(cluster.etcd.clone().watch(cluster.keys.master(), look.clone()));
+    let servers = cluster.settings.servers;
+    let mut master = Master {
+        core: Core::start(program, servers)?,
+        cluster,
+        roster: Roster::of_first_chain(servers),
+        lines: Vec::new(),
+        open: None,
+        silence: Silence::default(),
+        begun: Instant::now(),
+        why: None,
+        in_contact: true,
+    };
+    tracing::info!(cluster = %master.cluster.name, "a candidate for the master begins");
+    loop {
+        let is_more = master.round().await?;
+        if !is_more {
+            let _ = timeout(ROUND, look.notified()).await;
+        }
+    }
+}
+
+impl Master {
+    /// Reads, and appends a line at most. Says whether there may be more to do at once.
+    async fn round(&mut self) -> Result<bool> {
+        let began = self.begun.elapsed();
+        let round = match self.read().await? {
+            Ok(round) => round,
+            Err(error) => {
+                if std::mem::replace(&mut self.in_contact, false) {
+                    tracing::warn!(%error, "no contact with etcd");
+                }
+                sleep(Duration::from_millis(100)).await;
+                return Ok(true);
+            }
+        };
+        if !std::mem::replace(&mut self.in_contact, true) {
+            tracing::info!("in contact with etcd again");
+        }
+        let is_behind = round.lines.len() >= LINES as usize;
+        for line in round.lines {
+            self.hear(line).await?;
+        }
+        if is_behind {
+            return Ok(true);
+        }
+        self.silence.look(round.beats, &self.roster, began, self.begun.elapsed());
+        let view = View {
+            keys: &self.cluster.keys,
+            roster: &self.roster,
+            silence: &self.silence,
+            now: self.begun.elapsed(),
+            letters: &round.letters,
+            condemned: &round.condemned,
+        };
+        let (decision, why) = view.decide();
+        self.say(why);
+        match decision {
+            Decision::Append { line, guards, also } => self.append(line, guards, also).await,
+            Decision::Spare(server) => {
+                let undo = [Operation::delete(&self.cluster.keys.condemned(server))];
+                // Where it isn't undone now it is tried again.
+                let _ = self.cluster.etcd.transact(&[self.cluster.guard()], &undo, &[]).await;
+                Ok(false)
+            }
+            Decision::Nothing => Ok(false),
+        }
+    }
+
+    fn say(&mut self, why: Option<String>) {
+        if why != self.why {
+            match &why {
+                Some(why) => tracing::warn!("the chain waits: {why}"),
+                None => tracing::info!("the chain doesn't wait any more"),
+            }
+        }
+        self.why = why;
+    }
+
+    /// An outer error is the end of this candidate.
+    async fn read(&self) -> Result<Result<Round, EtcdError>> {
+        let keys = &self.cluster.keys;
+        let operations = [
+            keys.lines_from(self.roster.line + 1, LINES),
+            Operation::all(&keys.letters()),
+            Operation::all(&keys.beats()),
+            Operation::all(&keys.all_condemned()),
+            Operation::Get(keys.chain()),
+        ];
+        let outcome = match self.cluster.etcd.transact(&[self.cluster.guard()], &operations, &[]).await {
+            Ok(outcome) => outcome,
+            Err(error) => return Ok(Err(error)),
+        };
+        if !outcome.succeeded {
+            bail!("the cluster {} isn't the one with which this candidate began", self.cluster.name);
+        }
+        let [lines, letters, beats, condemned, chain]: [Vec<Entry>; 5] =
+            outcome.read.try_into().ok().context("etcd answers with too little")?;
+        let line = chain.first().map(records::value::<records::Chain>).transpose()?.map_or(0, |chain| chain.line);
+        if line < self.roster.line {
+            let said = format!("its log has {line} lines, and {} were there before", self.roster.line);
+            return Ok(Err(EtcdError::Refused(said)));
+        }
+        Ok(Ok(Round {
+            lines: lines.iter().map(records::value).collect::<Result<_>>()?,
+            beats: beats.iter().filter_map(beat).collect(),
+            letters: in_order(letters),
+            condemned: condemned.iter().filter_map(|entry| last_number(&entry.key)).collect(),
+        }))
+    }
+
+    /// The next line of the log is this one.
+    async fn hear(&mut self, line: Line) -> Result<()> {
+        let orders = self.orders_behind(&line).await?.context("the log has a line that cq master refuses")?;
+        tracing::info!(line = self.roster.line + 1, "{}", records::text(&line));
+        self.roster.feed(&line, orders.iter().map(|order| (order.server, order.number)));
+        self.lines.push(line);
+        Ok(())
+    }
+
+    /// What `cq master` puts behind a line that may become the next one; nothing if it refuses that.
+    async fn orders_behind(&mut self, line: &Line) -> Result<Option<Vec<Order>>> {
+        match self.open.take() {
+            Some((open, orders)) if open == *line => return Ok(Some(orders)),
+            Some(_) => self.core.begin_anew(&self.lines).await?,
+            None => {}
+        }
+        self.core.feed(line).await
+    }
+
+    async fn append(&mut self, line: Line, mut guards: Vec<Guard>, also: Vec<Operation>) -> Result<bool> {
+        let Some(orders) = self.orders_behind(&line).await? else {
+            tracing::warn!("cq master refuses {}", records::text(&line));
+            return Ok(false);
+        };
+        let mut roster = self.roster.clone();
+        roster.feed(&line, orders.iter().map(|order| (order.server, order.number)));
+        let keys = &self.cluster.keys;
+        guards.extend([self.cluster.guard(), Guard::IsAbsent(keys.line(roster.line))]);
+        let mut operations = vec![
+            Operation::Put(keys.line(roster.line), records::text(&line)),
+            Operation::Put(keys.chain(), records::text(&roster.chain())),
+        ];
+        operations.extend(orders.iter().map(|order| {
+            Operation::Put(keys.order(order.server, order.number), records::text(&Piece(order.piece.clone())))
+        }));
+        operations.extend(also);
+        self.open = Some((line, orders));
+        match self.cluster.etcd.transact(&guards, &operations, &[]).await {
+            Ok(outcome) if outcome.succeeded => {
+                if let Some((line, _)) = self.open.clone() {
+                    self.hear(line).await?;
+                }
+                Ok(true)
+            }
+            // The next read says what is there.
+            _ => {
+                sleep(STEP_BACK).await;
+                Ok(true)
+            }
+        }
+    }
+}
+
+fn beat(entry: &Entry) -> Option<(u32, i64, Beat)> {
+    let beat = records::value(entry).map_err(|error| tracing::warn!("{error:#}")).ok()?;
+    Some((last_number(&entry.key)?, entry.revision, beat))
+}
+
+fn in_order(mut letters: Vec<Entry>) -> Vec<Letter> {
+    letters.sort_by_key(|entry| entry.revision);
+    let letter = |entry: &Entry| {
+        let Piece(piece) = records::value(entry).map_err(|error| tracing::warn!("{error:#}")).ok()?;
+        let (server, number) = server_and_number(&entry.key)?;
+        Some(Letter { server, number, piece })
+    };
+    letters.iter().filter_map(letter).collect()
+}
