@@ -7,14 +7,19 @@
 
 mod child;
 mod clock;
+pub mod command_line;
 mod commands;
 mod decision;
 mod etcd;
+mod link;
 mod master;
+mod node;
 mod parts;
 mod records;
 mod roster;
 mod silence;
+mod status;
+mod up;
 mod wire;
 
 use std::sync::{Mutex, MutexGuard, PoisonError};

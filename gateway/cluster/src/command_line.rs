@@ -1,0 +1,173 @@
+//! The commands `hobbychair node`, `master` and `cluster`.
+
+use std::net::SocketAddr;
+use std::path::PathBuf;
+
+use anyhow::{bail, Result};
+use clap::{ArgGroup, Args, Subcommand};
+
+use crate::node::{self, Beginning, End};
+use crate::records::Cluster;
+use crate::roster::MOST_MEMBERS;
+use crate::{master, status, up};
+
+/// Which cluster a command is about.
+#[derive(Args)]
+pub struct Which {
+    /// The name of the cluster
+    #[arg(long, value_name = "NAME")]
+    cluster: String,
+    /// The members of etcd
+    #[arg(long, value_name = "URL,..", value_delimiter = ',', required = true)]
+    etcd: Vec<String>,
+}
+
+impl Which {
+    async fn find(&self) -> Result<Cluster> {
+        Cluster::find(&self.cluster, &self.etcd).await
+    }
+}
+
+#[derive(Args)]
+#[command(group(ArgGroup::new("beginning").required(true).args(["first", "join"])))]
+pub struct Node {
+    #[command(flatten)]
+    which: Which,
+    /// Where other nodes and clients reach this one
+    #[arg(long, value_name = "ADDRESS:PORT")]
+    listen: SocketAddr,
+    /// Begin as that server of the first chain
+    #[arg(long, value_name = "N")]
+    first: Option<u32>,
+    /// Join the chain, with the next number
+    #[arg(long)]
+    join: bool,
+    /// The program cq [default: cq of the path]
+    #[arg(long, value_name = "PROGRAM", env = "HOBBYCHAIR_CQ")]
+    pub cq: Option<String>,
+    /// A new file for all that the server is told and tells, for tests
+    #[arg(long, value_name = "FILE", hide = true)]
+    trace: Option<PathBuf>,
+}
+
+#[derive(Args)]
+pub struct Master {
+    #[command(flatten)]
+    which: Which,
+    /// The program cq [default: cq of the path]
+    #[arg(long, value_name = "PROGRAM", env = "HOBBYCHAIR_CQ")]
+    pub cq: Option<String>,
+}
+
+#[derive(Subcommand)]
+pub enum OfCluster {
+    /// Make a cluster in etcd, whose first chain has servers 1 to N
+    Create {
+        #[command(flatten)]
+        which: Which,
+        /// How many servers the first chain has
+        #[arg(long, value_name = "N")]
+        nodes: u32,
+    },
+    /// Say how a cluster is
+    Status {
+        #[command(flatten)]
+        which: Which,
+        /// For programs
+        #[arg(long)]
+        json: bool,
+    },
+    /// Write the lines of the master's log
+    Log {
+        #[command(flatten)]
+        which: Which,
+    },
+    /// Start a whole cluster on this machine, to try it
+    Up {
+        /// How many nodes
+        #[arg(long, value_name = "N", default_value = "3")]
+        nodes: u32,
+        /// A new folder for etcd and for what the processes say
+        #[arg(long, value_name = "FOLDER")]
+        folder: PathBuf,
+        /// The program cq [default: cq of the path]
+        #[arg(long, value_name = "PROGRAM", env = "HOBBYCHAIR_CQ")]
+        cq: Option<String>,
+    },
+}
+
+impl OfCluster {
+    /// Which program cq was given, where one is needed.
+    pub fn cq(&self) -> Option<Option<String>> {
+        match self {
+            OfCluster::Up { cq, .. } => Some(cq.clone()),
+            _ => None,
+        }
+    }
+}
+
+fn runtime(threads: usize) -> Result<tokio::runtime::Runtime> {
+    Ok(tokio::runtime::Builder::new_multi_thread().worker_threads(threads).enable_all().build()?)
+}
+
+/// Runs a node, with the program cq.
+pub fn run_node(node: Node, program: String) -> Result<()> {
+    let beginning = node.first.map_or(Beginning::Join, Beginning::First);
+    let settings = node::Settings { listen: node.listen, beginning, program, trace: node.trace };
+    let runtime = runtime(2)?;
+    let end = runtime.block_on(async { node::run(node.which.find().await?, settings).await })?;
+    runtime.shutdown_background();
+    match end {
+        End::Fault(why) => bail!("this node ends: {why}"),
+        end => {
+            tracing::warn!("this node ends: {end}");
+            Ok(())
+        }
+    }
+}
+
+/// Runs a candidate for the master, with the program cq.
+pub fn run_master(master: &Master, program: &str) -> Result<()> {
+    runtime(1)?.block_on(async { master::run(master.which.find().await?, program).await })
+}
+
+/// Does what is asked about a cluster. The program is there where one is needed.
+pub fn run_cluster(asked: OfCluster, program: Option<String>) -> Result<()> {
+    runtime(1)?.block_on(async {
+        match asked {
+            OfCluster::Create { which, nodes } => create(&which, nodes).await,
+            OfCluster::Status { which, json } => {
+                let status = status::look(&which.find().await?).await?;
+                if json {
+                    println!("{}", serde_json::to_string(&status)?);
+                } else {
+                    print!("{}", status.columns());
+                }
+                Ok(())
+            }
+            OfCluster::Log { which } => {
+                status::log(&which.find().await?).await?.iter().for_each(|line| println!("{line}"));
+                Ok(())
+            }
+            OfCluster::Up { nodes, folder, .. } => {
+                test_size(nodes)?;
+                up::up(nodes, &folder, &program.unwrap_or_else(|| "cq".into())).await
+            }
+        }
+    })
+}
+
+async fn create(which: &Which, nodes: u32) -> Result<()> {
+    test_size(nodes)?;
+    let cluster = Cluster::create(&which.cluster, &which.etcd, nodes).await?;
+    println!("cluster {} is there, of incarnation {}", cluster.name, cluster.settings.incarnation);
+    println!("its servers 1 to {nodes} begin by: hobbychair node --first N");
+    Ok(())
+}
+
+fn test_size(nodes: u32) -> Result<()> {
+    if nodes == 0 || nodes as usize > MOST_MEMBERS {
+        bail!("a chain has 1 to {MOST_MEMBERS} servers");
+    }
+    Ok(())
+}

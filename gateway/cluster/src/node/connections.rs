@@ -1,0 +1,271 @@
+//! Connections that come to a node's port: links of other nodes, clients, and strangers.
+
+use std::io;
+use std::sync::atomic::{AtomicU64, AtomicUsize, Ordering};
+use std::sync::Arc;
+use std::time::Duration;
+
+use bytes::Bytes;
+use tokio::io::AsyncWriteExt;
+use tokio::net::tcp::{OwnedReadHalf, OwnedWriteHalf};
+use tokio::net::{TcpListener, TcpStream};
+use tokio::sync::mpsc::{unbounded_channel, UnboundedReceiver, UnboundedSender};
+use tokio::sync::{oneshot, Notify, Semaphore};
+use tokio::time::{sleep, timeout};
+
+use crate::lock;
+use crate::parts::{Frames, FRAME_LIMIT};
+use crate::wire::{About, Frame, GREETING_LIMIT};
+
+use super::streams::Work;
+use super::{Event, Shared};
+
+/// A connection has so long to say whom it is about.
+const GREETING: Duration = Duration::from_secs(5);
+
+/// So many connections may be there that haven't said it yet.
+const MOST_STRANGERS: usize = 64;
+
+/// A link's connection on which nothing comes for so long is closed.
+const QUIET: Duration = Duration::from_secs(2);
+
+/// A client that takes nothing for so long loses its connection.
+const WRITING: Duration = Duration::from_secs(10);
+
+/// So many bytes may wait for a client that doesn't read.
+const MOST_WAITING: usize = 32 << 20;
+
+/// So long accepting rests where the system has no more descriptors.
+const REST: Duration = Duration::from_millis(100);
+
+/// Counts connections, so that each has a number of its own.
+static CONNECTIONS: AtomicU64 = AtomicU64::new(1);
+
+/// What a node tells back over a link's connection: which frame it has received last.
+pub struct Acknowledging {
+    pub received: AtomicU64,
+    pub wake: Notify,
+}
+
+/// How a link goes on over a new connection.
+pub struct Linked {
+    /// The connection's number: what came by an earlier one counts no more.
+    pub connection: u64,
+    pub received: u64,
+    pub acknowledging: Arc<Acknowledging>,
+}
+
+/// Where frames for a client go.
+pub struct Outlet {
+    /// The client wants the answers for client numbers in this range.
+    pub wants: std::ops::RangeInclusive<u32>,
+    frames: UnboundedSender<Bytes>,
+    waiting: Arc<AtomicUsize>,
+}
+
+impl Outlet {
+    /// Whether the client is there, and reads.
+    pub fn send(&self, frame: &Frame) -> bool {
+        let bytes = Bytes::from(frame.bytes());
+        let waiting = self.waiting.fetch_add(bytes.len(), Ordering::Relaxed);
+        waiting < MOST_WAITING && self.frames.send(bytes).is_ok()
+    }
+}
+
+/// Accepts connections for good.
+pub async fn accept(listener: TcpListener, node: Arc<Shared>) {
+    let strangers = Arc::new(Semaphore::new(MOST_STRANGERS));
+    loop {
+        let connection = match listener.accept().await {
+            Ok((connection, _)) => connection,
+            Err(error) => {
+                tracing::warn!(%error, "no connection can be accepted");
+                sleep(REST).await;
+                continue;
+            }
+        };
+        let Ok(room) = strangers.clone().try_acquire_owned() else {
+            tracing::warn!("a connection is turned away: too many others haven't said whom they are about");
+            continue;
+        };
+        let node = node.clone();
+        tokio::spawn(async move {
+            let from = connection.peer_addr().map_or_else(|_| "nowhere".into(), |address| address.to_string());
+            if let Err(error) = serve(connection, room, &node).await {
+                tracing::warn!(%from, %error, "a connection ends");
+            }
+        });
+    }
+}
+
+async fn serve(connection: TcpStream, room: tokio::sync::OwnedSemaphorePermit, node: &Arc<Shared>) -> io::Result<()> {
+    connection.set_nodelay(true)?;
+    let (reading, writing) = connection.into_split();
+    let mut reading = Frames::new(reading, GREETING_LIMIT);
+    let greeting = match timeout(GREETING, reading.next()).await? {
+        Ok(bytes) => Frame::read(bytes).map_err(|malformed| io::Error::new(io::ErrorKind::InvalidData, malformed))?,
+        // Somebody looked whether the port is open.
+        Err(error) if error.kind() == io::ErrorKind::UnexpectedEof => return Ok(()),
+        Err(error) => return Err(error),
+    };
+    drop(room);
+    let reading = reading.with_limit(FRAME_LIMIT);
+    match greeting {
+        Frame::Link { about, from, nonce, to, gone } => {
+            if let Err(why) = test_link(node, &about, from, &nonce, to) {
+                return turn_away(writing, why).await;
+            }
+            link(node, from, gone, reading, writing).await
+        }
+        Frame::Client { about, first, last } => match test_about(node, &about) {
+            Ok(()) => client(node, first..=last, reading, writing).await,
+            Err(why) => turn_away(writing, why).await,
+        },
+        _ => Err(other("it greets with another frame")),
+    }
+}
+
+fn test_about(node: &Shared, about: &About) -> Result<(), String> {
+    if *about == node.about() {
+        return Ok(());
+    }
+    Err(format!(
+        "this is a server of cluster {}, of another incarnation than asked for, or another cluster",
+        node.cluster.name
+    ))
+}
+
+fn test_link(node: &Shared, about: &About, from: u32, nonce: &str, to: u32) -> Result<(), String> {
+    test_about(node, about)?;
+    if to != node.id {
+        return Err(format!("this is server {}, and not {to}", node.id));
+    }
+    match lock(&node.registrations).get(&from) {
+        Some(registration) if registration.nonce == nonce => Ok(()),
+        Some(_) => Err(format!("server {from} is another process")),
+        None => Err(format!("server {from} isn't known here yet")),
+    }
+}
+
+async fn turn_away(mut writing: OwnedWriteHalf, why: String) -> io::Result<()> {
+    timeout(QUIET, writing.write_all(&Frame::Away { why: why.clone() }.bytes())).await??;
+    Err(other(&format!("it is turned away: {why}")))
+}
+
+/// Carries what comes by a link's connection to the node's task, until it breaks or another connection takes its place.
+async fn link(
+    node: &Arc<Shared>,
+    from: u32,
+    gone: Vec<u32>,
+    mut reading: Frames<OwnedReadHalf>,
+    mut writing: OwnedWriteHalf,
+) -> io::Result<()> {
+    let (reply, replied) = oneshot::channel();
+    node.tell(Event::Linking { from, gone, reply });
+    let Ok(Some(Linked { connection, received, acknowledging })) = replied.await else {
+        return turn_away(writing, format!("server {from} was detected")).await;
+    };
+    let welcome = Frame::Welcome { received, gone: node.all_gone() };
+    timeout(QUIET, writing.write_all(&welcome.bytes())).await??;
+    let read = async {
+        loop {
+            let frame = read(timeout(QUIET, reading.next()).await??)?;
+            let is_ping = matches!(frame, Frame::Ping { .. });
+            if !is_ping && !matches!(frame, Frame::Message { .. } | Frame::Gone { .. }) {
+                return Err(other("a frame came that doesn't belong on a link"));
+            }
+            node.tell(Event::Came { from, connection, frame });
+            if is_ping {
+                acknowledging.wake.notify_one();
+            }
+        }
+    };
+    let write = async {
+        loop {
+            acknowledging.wake.notified().await;
+            let frame = acknowledging.received.load(Ordering::Acquire);
+            timeout(QUIET, writing.write_all(&Frame::Received { frame }.bytes())).await??;
+        }
+    };
+    let ended: io::Result<()> = tokio::select! { ended = read => ended, ended = write => ended };
+    tracing::info!(from, error = %ended.as_ref().err().map_or_else(String::new, ToString::to_string), "a link's connection ends");
+    Ok(())
+}
+
+/// Carries what a client asks for to the node's task, and what is for it back.
+async fn client(
+    node: &Arc<Shared>,
+    wants: std::ops::RangeInclusive<u32>,
+    mut reading: Frames<OwnedReadHalf>,
+    writing: OwnedWriteHalf,
+) -> io::Result<()> {
+    let client = CONNECTIONS.fetch_add(1, Ordering::Relaxed);
+    let (frames, waiting_frames) = unbounded_channel();
+    let waiting = Arc::new(AtomicUsize::new(0));
+    node.tell(Event::Client { client, outlet: Outlet { wants, frames, waiting: waiting.clone() } });
+    let read = async {
+        loop {
+            let (stream, work) = match read(reading.next().await?)? {
+                Frame::Batch { stream, requests } => (stream, requests.into_iter().map(Work::Request).collect()),
+                Frame::Query { stream, query } => (stream, [Work::Query(query)].into()),
+                _ => return Err(other("a frame came that doesn't belong to a client")),
+            };
+            let (done, is_done) = oneshot::channel();
+            node.tell(Event::Asked { client, stream, work, done });
+            // Where the node lets go of the client, this is an error.
+            is_done.await.map_err(|_| other("it takes no answers"))?;
+        }
+    };
+    let ended: io::Result<()> = tokio::select! {
+        ended = read => ended,
+        ended = write(waiting_frames, writing, &waiting) => ended,
+    };
+    node.tell(Event::Left { client });
+    match ended {
+        Err(error) if error.kind() == io::ErrorKind::InvalidData => Err(error),
+        ended => {
+            tracing::debug!(client, ?ended, "a client is gone");
+            Ok(())
+        }
+    }
+}
+
+async fn write(
+    mut frames: UnboundedReceiver<Bytes>,
+    mut writing: OwnedWriteHalf,
+    waiting: &AtomicUsize,
+) -> io::Result<()> {
+    while let Some(mut bytes) = frames.recv().await {
+        if let Ok(next) = frames.try_recv() {
+            bytes = gather(&[bytes, next], &mut frames);
+        }
+        timeout(WRITING, writing.write_all(&bytes)).await??;
+        waiting.fetch_sub(bytes.len(), Ordering::Relaxed);
+    }
+    Err(other("the node let go of it"))
+}
+
+/// What waits in one piece, so that it is written at once.
+fn gather(first: &[Bytes], frames: &mut UnboundedReceiver<Bytes>) -> Bytes {
+    let mut all = first.concat();
+    while all.len() < 1 << 20 {
+        match frames.try_recv() {
+            Ok(next) => all.extend_from_slice(&next),
+            Err(_) => break,
+        }
+    }
+    all.into()
+}
+
+fn read(bytes: Bytes) -> io::Result<Frame> {
+    Frame::read(bytes).map_err(|malformed| io::Error::new(io::ErrorKind::InvalidData, malformed))
+}
+
+fn other(why: &str) -> io::Error {
+    io::Error::new(io::ErrorKind::InvalidData, why)
+}
+
+/// A number that no other connection has.
+pub fn next_connection() -> u64 {
+    CONNECTIONS.fetch_add(1, Ordering::Relaxed)
+}

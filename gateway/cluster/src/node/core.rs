@@ -1,0 +1,476 @@
+//! The one task that hears of all that happens at a node, and tells the server of it in order.
+
+use std::collections::{BTreeMap, BTreeSet, VecDeque};
+use std::path::Path;
+use std::sync::atomic::{AtomicU64, Ordering};
+use std::sync::Arc;
+use std::time::{Duration, Instant};
+
+use anyhow::Result;
+use bytes::Bytes;
+use tokio::sync::mpsc::UnboundedReceiver;
+use tokio::sync::Notify;
+
+use crate::child::{Child, Told};
+use crate::clock;
+use crate::commands::{Command, Message, Party, Place, Response, Standing, NO_MEMORY};
+use crate::link::Link;
+use crate::lock;
+use crate::records::Chain;
+use crate::wire::Frame;
+
+use super::connections::{next_connection, Acknowledging, Linked};
+use super::inbox::{Inbox, Taken};
+use super::streams::{Streams, Work};
+use super::trace::Trace;
+use super::{End, Event, Report, Shared};
+
+/// So often what waits for memory is tried again, and timers are looked at.
+pub const TICK: Duration = Duration::from_millis(50);
+
+/// From whom nothing came for so long isn't heard any more.
+const HEARD: Duration = Duration::from_secs(1);
+
+/// A server that answers nothing for so long doesn't work.
+const STUCK: Duration = Duration::from_secs(5);
+
+/// Between two ticks of a process that wasn't stopped.
+const STOPPED: Duration = Duration::from_millis(1500);
+
+/// So many frames of a snapshot are on their way before the next piece is asked for.
+const MOST_PIECES: usize = 16;
+
+/// A command that wasn't answered.
+struct Open {
+    what: What,
+    since: Instant,
+    /// Its frame, where it is traced.
+    frame: Option<Vec<u8>>,
+    /// The responses so far.
+    responses: Vec<Response>,
+}
+
+/// What a command is about.
+enum What {
+    Take(Party, Place),
+    Request(u64),
+    Query(u64),
+    More(Party),
+    Gone(u32),
+}
+
+/// When something that waits at the server is asked for.
+#[derive(Clone, Copy, PartialEq, Eq)]
+enum Wait {
+    Now,
+    /// At the next tick, since there was no memory.
+    Later,
+    /// It is asked for.
+    Asked,
+}
+
+/// The receiving end of a link.
+struct Peer {
+    /// The connection that counts.
+    connection: u64,
+    /// The number of the last frame.
+    received: u64,
+    heard: Option<Instant>,
+    acknowledging: Arc<Acknowledging>,
+}
+
+/// All that a node knows.
+pub struct Core {
+    node: Arc<Shared>,
+    child: Child,
+    open: VecDeque<Open>,
+    standing: Standing,
+    chain: Option<Chain>,
+    gone: BTreeSet<u32>,
+    links: BTreeMap<u32, Arc<Link>>,
+    peers: BTreeMap<u32, Peer>,
+    inboxes: BTreeMap<Party, Inbox>,
+    /// For whom something waits at the server.
+    waiting: BTreeMap<Party, Wait>,
+    streams: Streams,
+    trace: Option<Trace>,
+    ticked: Instant,
+    end: Option<End>,
+}
+
+impl Core {
+    pub fn new(node: Arc<Shared>, child: Child, trace: Option<&Path>) -> Result<Core> {
+        Ok(Core {
+            node,
+            child,
+            open: VecDeque::new(),
+            standing: Standing::default(),
+            chain: None,
+            gone: BTreeSet::new(),
+            links: BTreeMap::new(),
+            peers: BTreeMap::new(),
+            inboxes: BTreeMap::new(),
+            waiting: BTreeMap::new(),
+            streams: Streams::default(),
+            trace: trace.map(Trace::begin).transpose()?,
+            ticked: Instant::now(),
+            end: None,
+        })
+    }
+
+    /// Runs until the node ends.
+    pub async fn run(mut self, mut events: UnboundedReceiver<Event>) -> End {
+        // Its answer says where the server stands.
+        self.give(What::More(Party::Clients), &Command::More(Party::Clients));
+        while let Some(event) = events.recv().await {
+            self.happen(event);
+            if let Some(end) = self.end {
+                return end;
+            }
+            self.go_on();
+        }
+        End::Fault("nothing happens any more".into())
+    }
+
+    fn happen(&mut self, event: Event) {
+        match event {
+            Event::Told(Told::Responses(responses)) => {
+                for response in responses {
+                    self.hear(response);
+                    if self.end.is_some() {
+                        return;
+                    }
+                }
+            }
+            Event::Told(Told::Ended(why)) => self.fail(format!("cq server is gone: {why}")),
+            Event::Learned(gone) => self.learn(&gone),
+            Event::Linking { from, gone, reply } => {
+                self.learn(&gone);
+                let linked = (self.end.is_none() && !self.gone.contains(&from)).then(|| self.begin_connection(from));
+                let _ = reply.send(linked);
+            }
+            Event::Came { from, connection, frame } => self.came(from, connection, frame),
+            Event::Received => {}
+            Event::Read { detected, chain, orders } => self.read(&detected, chain, orders),
+            Event::Client { client, outlet } => {
+                self.streams.enter(client, outlet);
+                self.streams.send(client, &self.frame_of_standing());
+            }
+            Event::Asked { client, stream, work, done } => self.streams.ask(client, stream, work, done),
+            Event::Left { client } => self.streams.leave(client),
+            Event::Tick => self.tick(),
+        }
+    }
+
+    fn fail(&mut self, why: String) {
+        self.end = Some(End::Fault(why));
+    }
+
+    // ---- the server
+
+    fn give(&mut self, what: What, command: &Command) {
+        let frame = command.frame();
+        let kept = self.trace.is_some().then(|| frame.clone());
+        self.child.give(frame);
+        self.open.push_back(Open { what, since: Instant::now(), frame: kept, responses: Vec::new() });
+    }
+
+    fn hear(&mut self, response: Response) {
+        if !response.is_last() {
+            match self.open.front_mut() {
+                Some(open) => open.responses.push(response),
+                None => self.fail("cq server tells something that nobody asked for".into()),
+            }
+            return;
+        }
+        let Some(open) = self.open.pop_front() else {
+            return self.fail("cq server answers what nobody asked for".into());
+        };
+        let refused = match &response {
+            Response::Refused(code) | Response::Unread(code) => Some(*code),
+            _ => None,
+        };
+        if refused.is_none() {
+            if let Err(error) = self.write_down(&open, &response) {
+                return self.fail(format!("the trace can't be written: {error}"));
+            }
+        }
+        if let Response::Done(standing) = response {
+            self.stand(standing);
+        }
+        self.answered(open.what, refused);
+        for response in open.responses {
+            match response {
+                Response::Put { to, place, piece } => self.put(to, place, piece),
+                Response::Waiting(party) => drop(self.waiting.entry(party).or_insert(Wait::Now)),
+                _ => {}
+            }
+        }
+    }
+
+    /// Before anything leaves that it causes.
+    fn write_down(&mut self, open: &Open, last: &Response) -> std::io::Result<()> {
+        let Some((trace, frame)) = self.trace.as_mut().zip(open.frame.as_ref()) else { return Ok(()) };
+        trace.write(frame, open.responses.iter().chain([last]))
+    }
+
+    fn answered(&mut self, what: What, refused: Option<u32>) {
+        match what {
+            What::Take(from, place) => {
+                let taken = self.inboxes.get_mut(&from).map(|inbox| inbox.answered(place, refused));
+                if let Some(Taken::Broken(code)) = taken {
+                    tracing::error!(%from, number = place.number, code, "what came is no message: its link stands still");
+                }
+            }
+            What::Request(client) => self.streams.answered(client, true, refused),
+            What::Query(client) => self.streams.answered(client, false, refused),
+            What::More(to) => {
+                self.waiting.remove(&to);
+                if refused == Some(NO_MEMORY) {
+                    self.waiting.insert(to, Wait::Later);
+                }
+            }
+            What::Gone(server) if refused.is_some() => self.tell_gone(server),
+            What::Gone(_) => {}
+        }
+    }
+
+    fn stand(&mut self, standing: Standing) {
+        let before = std::mem::replace(&mut self.standing, standing);
+        {
+            let mut clock = lock(&self.node.clock);
+            let since_start = clock::since_start();
+            clock.took(standing.last, since_start);
+            if standing.is_head && !before.is_head {
+                clock.lead(clock::wall(), since_start);
+            }
+        }
+        self.streams.stand(&standing);
+        let is_news = |one: bool, other: bool| one != other;
+        if is_news(before.is_head, standing.is_head) || is_news(before.is_acting, standing.is_acting) {
+            tracing::info!(
+                count = standing.count,
+                head = standing.is_head,
+                acting = standing.is_acting,
+                "the server's place"
+            );
+            let frame = self.frame_of_standing();
+            self.streams.tell_all(&frame);
+            self.report();
+        }
+    }
+
+    fn frame_of_standing(&self) -> Frame {
+        let Standing { is_head, is_acting, .. } = self.standing;
+        Frame::Standing { server: self.node.id, is_head, is_acting }
+    }
+
+    /// What the server puts goes on its way.
+    fn put(&mut self, to: Party, place: Place, piece: Bytes) {
+        match to {
+            Party::Clients => match Message::read(&piece) {
+                Ok(Message::Answer { client }) => self.streams.tell_of(client, &Frame::Answer { message: piece }),
+                _ => self.fail("cq server puts something for clients that is no answer".into()),
+            },
+            Party::Master => {
+                lock(&self.node.letters).push_back((place.number, piece));
+                self.node.look.notify_one();
+            }
+            Party::Server(server) if self.gone.contains(&server) => {}
+            Party::Server(server) => self.link(server).send_message(place, piece),
+        }
+    }
+
+    /// Gives the server what may be given.
+    fn go_on(&mut self) {
+        let parties: Vec<Party> = self.inboxes.keys().copied().collect();
+        for from in parties {
+            while let Some((place, command)) = self.inboxes.get_mut(&from).and_then(Inbox::next) {
+                self.give(What::Take(from, place), &command);
+            }
+        }
+        while let Some((client, work)) = self.streams.next(&self.standing) {
+            match work {
+                Work::Request(request) => {
+                    let clock = self.node.now();
+                    self.give(What::Request(client), &Command::Arrive { clock, request });
+                }
+                Work::Query(query) => self.give(What::Query(client), &Command::Ask { query }),
+            }
+        }
+        self.ask_for_more();
+    }
+
+    /// Asks for what waits. Of a snapshot, a few pieces are on their way at once.
+    fn ask_for_more(&mut self) {
+        let now = |(party, wait): (&Party, &Wait)| (*wait == Wait::Now).then_some(*party);
+        for party in self.waiting.iter().filter_map(now).collect::<Vec<_>>() {
+            if !self.is_full(party) {
+                self.ask_for(party);
+            }
+        }
+    }
+
+    /// Whether the link to a party has as many frames as it may have before more are asked for. Once some have come, this
+    /// is looked at again.
+    fn is_full(&mut self, party: Party) -> bool {
+        let Party::Server(server) = party else { return false };
+        let link = self.link(server);
+        if link.waiting() < MOST_PIECES {
+            return false;
+        }
+        link.await_received();
+        link.waiting() >= MOST_PIECES
+    }
+
+    fn ask_for(&mut self, party: Party) {
+        self.waiting.insert(party, Wait::Asked);
+        self.give(What::More(party), &Command::More(party));
+    }
+
+    // ---- detections
+
+    /// Servers were detected. That goes ahead of all that is written from now on.
+    fn learn(&mut self, detected: &[u32]) {
+        for server in detected {
+            if !self.gone.insert(*server) {
+                continue;
+            }
+            if *server == self.node.id {
+                self.end = Some(End::Detected);
+                return;
+            }
+            tracing::info!(server, "a server is gone");
+            lock(&self.node.gone).insert(*server);
+            lock(&self.node.linked).remove(server);
+            if let Some(link) = self.links.remove(server) {
+                link.close();
+            }
+            self.peers.remove(server);
+            self.inboxes.remove(&Party::Server(*server));
+            self.waiting.remove(&Party::Server(*server));
+            self.links.values().for_each(|link| link.send_gone(*server));
+            self.tell_gone(*server);
+        }
+    }
+
+    fn tell_gone(&mut self, server: u32) {
+        self.give(What::Gone(server), &Command::Gone(server));
+    }
+
+    // ---- links
+
+    fn link(&mut self, server: u32) -> Arc<Link> {
+        let node = &self.node;
+        let begin = || {
+            lock(&node.linked).insert(server);
+            node.look.notify_one();
+            Link::begin(server, node.clone())
+        };
+        self.links.entry(server).or_insert_with(begin).clone()
+    }
+
+    /// The link goes on over a new connection: what comes by an earlier one counts no more.
+    fn begin_connection(&mut self, from: u32) -> Linked {
+        let connection = next_connection();
+        let received = self.peers.get(&from).map_or(0, |peer| peer.received);
+        let acknowledging = Arc::new(Acknowledging { received: AtomicU64::new(received), wake: Notify::new() });
+        let heard = self.peers.get(&from).and_then(|peer| peer.heard);
+        self.peers.insert(from, Peer { connection, received, heard, acknowledging: acknowledging.clone() });
+        Linked { connection, received, acknowledging }
+    }
+
+    fn came(&mut self, from: u32, connection: u64, frame: Frame) {
+        let Some(peer) = self.peers.get_mut(&from).filter(|peer| peer.connection == connection) else { return };
+        peer.heard = Some(Instant::now());
+        match frame {
+            Frame::Ping { time } if self.precedes(from) => lock(&self.node.clock).follow(time, clock::since_start()),
+            Frame::Message { frame, place, piece } if self.is_next(from, frame) => {
+                let inbox = self.inboxes.entry(Party::Server(from)).or_insert_with(|| Inbox::new(Party::Server(from)));
+                inbox.push(place, piece);
+            }
+            Frame::Gone { frame, server } if self.is_next(from, frame) => self.learn(&[server]),
+            _ => {}
+        }
+    }
+
+    /// Whether that frame is the next one of its link. If so it counts as received.
+    fn is_next(&mut self, from: u32, frame: u64) -> bool {
+        let Some(peer) = self.peers.get_mut(&from) else { return false };
+        if frame != peer.received + 1 {
+            tracing::warn!(from, frame, received = peer.received, "a frame comes out of its turn");
+            return false;
+        }
+        peer.received = frame;
+        peer.acknowledging.received.store(frame, Ordering::Release);
+        peer.acknowledging.wake.notify_one();
+        true
+    }
+
+    /// Whether that server stands before this one.
+    fn precedes(&self, from: u32) -> bool {
+        let Some(chain) = &self.chain else { return false };
+        let before = match chain.members.iter().position(|member| *member == self.node.id) {
+            Some(place) => place.checked_sub(1).and_then(|before| chain.members.get(before)),
+            None => chain.members.last(),
+        };
+        before == Some(&from)
+    }
+
+    // ---- what the log says
+
+    fn read(&mut self, detected: &[u32], chain: Chain, orders: Vec<(u64, Bytes)>) {
+        self.learn(detected);
+        if self.end.is_some() {
+            return;
+        }
+        let id = self.node.id;
+        let has_place = chain.members.contains(&id) || chain.joiner == Some(id);
+        if chain.used.contains(&id) && !has_place {
+            self.end = Some(End::Dropped);
+            return;
+        }
+        for (number, piece) in orders {
+            let inbox = self.inboxes.entry(Party::Master).or_insert_with(|| Inbox::new(Party::Master));
+            inbox.push(Place { number, index: 0 }, piece);
+        }
+        if has_place {
+            // All hear from all, so that each has witnesses.
+            for server in chain.members.iter().chain(&chain.joiner) {
+                if *server != id && !self.gone.contains(server) {
+                    self.link(*server);
+                }
+            }
+        }
+        self.chain = Some(chain);
+    }
+
+    // ---- time
+
+    fn tick(&mut self) {
+        if self.ticked.elapsed() > STOPPED {
+            // This process was stopped, and perhaps the server with it.
+            self.open.iter_mut().for_each(|open| open.since = Instant::now());
+        }
+        self.ticked = Instant::now();
+        self.inboxes.values_mut().for_each(Inbox::begin_again);
+        for wait in self.waiting.values_mut().filter(|wait| **wait == Wait::Later) {
+            *wait = Wait::Now;
+        }
+        if self.standing.is_head {
+            lock(&self.node.clock).lead(clock::wall(), clock::since_start());
+        }
+        self.report();
+    }
+
+    fn report(&self) {
+        let hears =
+            |(server, peer): (&u32, &Peer)| peer.heard.is_some_and(|heard| heard.elapsed() < HEARD).then_some(*server);
+        *lock(&self.node.report) = Report {
+            standing: self.standing,
+            hears: self.peers.iter().filter_map(hears).collect(),
+            clients: self.streams.len(),
+            is_stuck: self.open.front().is_some_and(|open| open.since.elapsed() > STUCK),
+        };
+    }
+}

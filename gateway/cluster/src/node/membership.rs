@@ -1,0 +1,193 @@
+//! What a node says and reads in etcd. Without etcd the node goes on, and nothing here ends it.
+
+use std::collections::BTreeSet;
+use std::sync::Arc;
+use std::time::{Duration, Instant};
+
+use anyhow::{Context, Result};
+use bytes::Bytes;
+use tokio::time::{sleep, timeout};
+
+use crate::etcd::{Entry, Guard, Operation};
+use crate::lock;
+use crate::records::{self, last_number, Beat, Chain, Piece, Registration};
+
+use super::{Event, Report, Shared};
+
+/// So often a node beats.
+const BEAT: Duration = Duration::from_millis(500);
+
+/// A look that comes a little early beats as well.
+const EARLY: Duration = Duration::from_millis(50);
+
+/// Between two looks, however much changes.
+const SHORTEST: Duration = Duration::from_millis(10);
+
+/// So many messages for the master go with one transaction.
+const MOST_LETTERS: usize = 32;
+
+/// So many registrations are asked for by one transaction.
+const MOST_REGISTRATIONS: usize = 16;
+
+/// What one task knows of etcd.
+struct Membership {
+    node: Arc<Shared>,
+    joins: bool,
+    /// The number of the last beat.
+    beat: u64,
+    beaten: Option<Instant>,
+    /// The number of the next message of the master.
+    next_order: u64,
+    /// How many lines the log had.
+    line: u64,
+    chain: Option<Chain>,
+    in_contact: bool,
+}
+
+/// Beats and reads for good.
+pub async fn keep(node: Arc<Shared>, joins: bool) {
+    let keys = node.cluster.keys.clone();
+    tokio::spawn(node.cluster.etcd.clone().watch(keys.master(), node.look.clone()));
+    let look = node.look.clone();
+    let mut membership =
+        Membership { node, joins, beat: 0, beaten: None, next_order: 1, line: 0, chain: None, in_contact: true };
+    loop {
+        match membership.look().await {
+            Ok(is_more) => {
+                if !std::mem::replace(&mut membership.in_contact, true) {
+                    tracing::info!("in contact with etcd again");
+                }
+                if !is_more {
+                    let rest = membership.beaten.map_or(BEAT, |beaten| BEAT.saturating_sub(beaten.elapsed()));
+                    let _ = timeout(rest.max(SHORTEST), look.notified()).await;
+                }
+                sleep(SHORTEST).await;
+            }
+            Err(error) => {
+                membership.beaten = None;
+                if std::mem::replace(&mut membership.in_contact, false) {
+                    tracing::warn!("no contact with etcd, and all goes on as it is: {error:#}");
+                }
+                sleep(Duration::from_millis(100)).await;
+            }
+        }
+    }
+}
+
+impl Membership {
+    /// One transaction. Says whether there is more to do at once.
+    async fn look(&mut self) -> Result<bool> {
+        let node = self.node.clone();
+        let keys = &node.cluster.keys;
+        let unknown = self.unknown();
+        let mut reads = vec![
+            Operation::all(&keys.all_detected()),
+            Operation::Get(keys.chain()),
+            keys.orders_from(node.id, self.next_order),
+            Operation::Get(keys.cluster.clone()),
+        ];
+        reads.extend(unknown.iter().map(|server| Operation::Get(keys.node(*server))));
+        let (letters, writes) = self.writes();
+        let guards = [node.cluster.guard(), Guard::IsAbsent(keys.detected(node.id))];
+        let all = [reads.clone(), writes].concat();
+        let outcome = node.cluster.etcd.transact(&guards, &all, &reads).await?;
+        let mut read = outcome.read.into_iter();
+        let mut next = || read.next().context("etcd answers with too little");
+        let (detected, chain, orders, settings) = (next()?, next()?, next()?, next()?);
+        anyhow::ensure!(
+            settings.first().is_some_and(|found| found.value == records::text(&node.cluster.settings)),
+            "the cluster of this name is another one now"
+        );
+        let registrations = unknown.into_iter().map(|server| Ok((server, next()?))).collect::<Result<Vec<_>>>()?;
+        let chain: Chain = records::value(chain.first().context("the cluster has no chain")?)?;
+        anyhow::ensure!(
+            chain.line >= self.line,
+            "its log has {} lines, and {} were there before",
+            chain.line,
+            self.line
+        );
+        if outcome.succeeded {
+            self.wrote(letters);
+        }
+        self.line = chain.line;
+        for (server, found) in registrations {
+            if let Some(registration) = found.first().map(records::value::<Registration>).transpose()? {
+                lock(&node.registrations).insert(server, registration);
+            }
+        }
+        let orders = self.new_orders(&orders)?;
+        self.chain = Some(chain.clone());
+        let detected = detected.iter().filter_map(|entry| last_number(&entry.key)).collect();
+        node.tell(Event::Read { detected, chain, orders });
+        Ok(!lock(&node.letters).is_empty() || (outcome.succeeded && !self.unknown().is_empty()))
+    }
+
+    /// Servers of the chain, and others to which there are links, whose addresses aren't known.
+    fn unknown(&self) -> Vec<u32> {
+        let mut servers: BTreeSet<u32> = lock(&self.node.linked).clone();
+        if let Some(chain) = &self.chain {
+            servers.extend(chain.members.iter().chain(&chain.joiner));
+        }
+        let known = lock(&self.node.registrations);
+        servers.into_iter().filter(|server| !known.contains_key(server)).take(MOST_REGISTRATIONS).collect()
+    }
+
+    /// What is written, and the number of the last message for the master in it.
+    fn writes(&mut self) -> (Option<u64>, Vec<Operation>) {
+        let keys = &self.node.cluster.keys;
+        let mut writes = Vec::new();
+        let report = lock(&self.node.report).clone();
+        if self.beaten.map_or(true, |beaten| beaten.elapsed() + EARLY >= BEAT) {
+            self.beaten = Some(Instant::now());
+            self.beat += 1;
+            writes.push(Operation::Put(keys.beat(self.node.id), records::text(&self.next_beat(&report))));
+            if report.is_stuck {
+                writes.push(Operation::Put(keys.condemned(self.node.id), "its process doesn't answer".into()));
+            }
+        }
+        let waiting: Vec<(u64, Bytes)> = lock(&self.node.letters).iter().take(MOST_LETTERS).cloned().collect();
+        let last = waiting.last().map(|(number, _)| *number);
+        writes.extend(
+            waiting
+                .into_iter()
+                .map(|(number, piece)| Operation::Put(keys.letter(self.node.id, number), records::text(&Piece(piece)))),
+        );
+        (last, writes)
+    }
+
+    fn next_beat(&self, report: &Report) -> Beat {
+        let standing = &report.standing;
+        Beat {
+            number: self.beat,
+            joins: self.joins,
+            count: standing.count,
+            acked: standing.acked,
+            is_head: standing.is_head,
+            is_acting: standing.is_acting,
+            is_full: standing.is_full,
+            took: self.next_order - 1,
+            hears: report.hears.clone(),
+            clients: report.clients,
+        }
+    }
+
+    fn wrote(&mut self, last: Option<u64>) {
+        let mut letters = lock(&self.node.letters);
+        while last.is_some_and(|last| letters.front().is_some_and(|(number, _)| *number <= last)) {
+            letters.pop_front();
+        }
+    }
+
+    /// The messages of the master that weren't read before, in order.
+    fn new_orders(&mut self, found: &[Entry]) -> Result<Vec<(u64, Bytes)>> {
+        let mut orders = Vec::new();
+        for entry in found {
+            if last_number(&entry.key) == Some(self.next_order) {
+                let Piece(piece) = records::value(entry)?;
+                orders.push((self.next_order, piece));
+                self.next_order += 1;
+            }
+        }
+        Ok(orders)
+    }
+}

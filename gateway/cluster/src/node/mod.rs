@@ -1,0 +1,252 @@
+//! A node: one server of the chain, and what carries its messages.
+
+mod connections;
+mod core;
+mod inbox;
+mod membership;
+mod streams;
+mod trace;
+
+use std::collections::{BTreeMap, BTreeSet, VecDeque};
+use std::fmt;
+use std::net::SocketAddr;
+use std::path::PathBuf;
+use std::sync::{Arc, Mutex};
+
+use anyhow::{bail, Context, Result};
+use bytes::Bytes;
+use tokio::net::TcpListener;
+use tokio::sync::mpsc::{unbounded_channel, UnboundedSender};
+use tokio::sync::{oneshot, Notify};
+
+use crate::child::{Child, Told};
+use crate::clock::{self, Clock};
+use crate::commands::Standing;
+use crate::etcd::{Guard, Operation};
+use crate::lock;
+use crate::records::{self, random_name, Chain, Cluster, Registration};
+use crate::wire::{About, Frame};
+
+use self::connections::{Linked, Outlet};
+use self::core::Core;
+use self::streams::Work;
+
+/// How a node begins.
+#[derive(Clone, Copy, Debug, PartialEq, Eq)]
+pub enum Beginning {
+    /// As that server of the first chain.
+    First(u32),
+    /// With the next number, behind the chain's last member.
+    Join,
+}
+
+/// What a node is told at its start.
+pub struct Settings {
+    pub listen: SocketAddr,
+    pub beginning: Beginning,
+    pub program: String,
+    /// A file for all that the server was told and told, for tests.
+    pub trace: Option<PathBuf>,
+}
+
+/// Why a node ends.
+#[derive(Debug, PartialEq, Eq)]
+pub enum End {
+    /// By the log: it was detected.
+    Detected,
+    /// By the log: the chain let go of it while it joined.
+    Dropped,
+    /// By a fault of its own.
+    Fault(String),
+}
+
+impl fmt::Display for End {
+    fn fmt(&self, out: &mut fmt::Formatter<'_>) -> fmt::Result {
+        match self {
+            End::Detected => out.write_str("the master's log says that it is lost"),
+            End::Dropped => out.write_str("the master's log says that the chain let go of it while it joined"),
+            End::Fault(why) => out.write_str(why),
+        }
+    }
+}
+
+/// What happens at a node. One task hears of all of it, in order.
+pub enum Event {
+    /// The server tells something.
+    Told(Told),
+    /// These servers were detected, somebody says.
+    Learned(Vec<u32>),
+    /// Another node begins a connection of its link.
+    Linking { from: u32, gone: Vec<u32>, reply: oneshot::Sender<Option<Linked>> },
+    /// Something came by a link, over the connection with that number.
+    Came { from: u32, connection: u64, frame: Frame },
+    /// Something that was awaited has come to the other end of a link.
+    Received,
+    /// What was read in etcd at one moment.
+    Read { detected: Vec<u32>, chain: Chain, orders: Vec<(u64, Bytes)> },
+    /// A client is there.
+    Client { client: u64, outlet: Outlet },
+    /// What a client asks for, in the order of its stream.
+    Asked { client: u64, stream: u64, work: VecDeque<Work>, done: oneshot::Sender<()> },
+    /// A client is gone.
+    Left { client: u64 },
+    /// Some time has passed.
+    Tick,
+}
+
+/// Where a node stands, for its beat.
+#[derive(Clone, Debug, Default)]
+pub struct Report {
+    pub standing: Standing,
+    pub hears: Vec<u32>,
+    pub clients: usize,
+    /// The server answers nothing.
+    pub is_stuck: bool,
+}
+
+/// What all tasks of a node know.
+pub struct Shared {
+    pub cluster: Cluster,
+    pub id: u32,
+    nonce: String,
+    events: UnboundedSender<Event>,
+    clock: Mutex<Clock>,
+    gone: Mutex<BTreeSet<u32>>,
+    registrations: Mutex<BTreeMap<u32, Registration>>,
+    /// Servers to which there are links.
+    linked: Mutex<BTreeSet<u32>>,
+    /// Messages for the master that don't stand in etcd yet.
+    letters: Mutex<VecDeque<(u64, Bytes)>>,
+    report: Mutex<Report>,
+    /// There may be something to read or to write in etcd.
+    look: Arc<Notify>,
+}
+
+impl Shared {
+    pub fn tell(&self, event: Event) {
+        // Where nobody hears it, the node ends.
+        let _ = self.events.send(event);
+    }
+
+    /// The cluster's time.
+    pub fn now(&self) -> u64 {
+        lock(&self.clock).now(clock::since_start())
+    }
+
+    pub fn address(&self, server: u32) -> Option<SocketAddr> {
+        lock(&self.registrations).get(&server).map(|registration| registration.address)
+    }
+
+    /// With what a link to a server begins.
+    pub fn greeting(&self, to: u32) -> Frame {
+        Frame::Link { about: self.about(), from: self.id, nonce: self.nonce.clone(), to, gone: self.all_gone() }
+    }
+
+    fn about(&self) -> About {
+        About { cluster: self.cluster.name.clone(), incarnation: self.cluster.settings.incarnation.clone() }
+    }
+
+    fn all_gone(&self) -> Vec<u32> {
+        lock(&self.gone).iter().copied().collect()
+    }
+}
+
+/// Runs a node until the log says that it ends, or it fails.
+pub async fn run(cluster: Cluster, settings: Settings) -> Result<End> {
+    if !settings.listen.ip().is_loopback() {
+        bail!(
+            "{} isn't on this machine: without certificates, which aren't there yet, a node has a loopback address",
+            settings.listen
+        );
+    }
+    let listener =
+        TcpListener::bind(settings.listen).await.with_context(|| format!("can't listen on {}", settings.listen))?;
+    let address = listener.local_addr()?;
+    let nonce = random_name();
+    let id = register(&cluster, settings.beginning, &Registration { nonce: nonce.clone(), address }).await?;
+    let (events, heard) = unbounded_channel();
+    let child = start_child(&cluster, id, &settings, events.clone())?;
+    let node = Arc::new(Shared {
+        cluster,
+        id,
+        nonce,
+        events,
+        clock: Mutex::default(),
+        gone: Mutex::default(),
+        registrations: Mutex::default(),
+        linked: Mutex::default(),
+        letters: Mutex::default(),
+        report: Mutex::default(),
+        look: Arc::new(Notify::new()),
+    });
+    println!("server {id} listens on {address}");
+    tracing::info!(server = id, %address, child = child.id(), "a node begins");
+    let core = Core::new(node.clone(), child, settings.trace.as_deref())?;
+    tokio::spawn(connections::accept(listener, node.clone()));
+    tokio::spawn(membership::keep(node.clone(), settings.beginning == Beginning::Join));
+    tokio::spawn(tick(node));
+    Ok(core.run(heard).await)
+}
+
+fn start_child(cluster: &Cluster, id: u32, settings: &Settings, events: UnboundedSender<Event>) -> Result<Child> {
+    let mut words = vec!["server".to_string(), "--id".into(), id.to_string()];
+    match settings.beginning {
+        Beginning::First(_) => words.extend(["--first".into(), cluster.settings.servers.to_string()]),
+        Beginning::Join => words.push("--joining".into()),
+    }
+    let told = move |told| drop(events.send(Event::Told(told)));
+    Ok(Child::start(&settings.program, &words, told)?)
+}
+
+/// Takes a number, which nobody has taken before.
+async fn register(cluster: &Cluster, beginning: Beginning, registration: &Registration) -> Result<u32> {
+    let Beginning::First(first) = beginning else { return take_number(cluster, registration).await };
+    if first == 0 || first > cluster.settings.servers {
+        bail!("the first chain has servers 1 to {}: there is no server {first}", cluster.settings.servers);
+    }
+    if !put_registration(cluster, first, registration, Vec::new(), Vec::new()).await? {
+        bail!(
+            "server {first} was started before, and a number is used once, since what that server knew may be gone: start \
+             this node with --join"
+        );
+    }
+    Ok(first)
+}
+
+async fn take_number(cluster: &Cluster, registration: &Registration) -> Result<u32> {
+    loop {
+        let key = cluster.keys.next();
+        let read = cluster.etcd.transact(&[cluster.guard()], &[Operation::Get(key.clone())], &[]).await?.read;
+        let next = read.first().and_then(|found| found.first()).map(|found| found.value.clone());
+        let next = next.context("the cluster has no next number")?;
+        let number: u32 = next.parse().context("the cluster's next number is none")?;
+        let raise = Operation::Put(key.clone(), (number + 1).to_string());
+        if put_registration(cluster, number, registration, vec![Guard::Is(key, next)], vec![raise]).await? {
+            return Ok(number);
+        }
+    }
+}
+
+/// Whether the number is this process's now.
+async fn put_registration(
+    cluster: &Cluster,
+    number: u32,
+    registration: &Registration,
+    mut guards: Vec<Guard>,
+    mut operations: Vec<Operation>,
+) -> Result<bool> {
+    let key = cluster.keys.node(number);
+    guards.extend([cluster.guard(), Guard::IsAbsent(key.clone())]);
+    operations.push(Operation::Put(key.clone(), records::text(registration)));
+    let outcome = cluster.etcd.transact(&guards, &operations, &[Operation::Get(key)]).await?;
+    // An earlier answer may have been lost on its way.
+    let is_own = || outcome.read.iter().flatten().any(|found| found.value == records::text(registration));
+    Ok(outcome.succeeded || is_own())
+}
+
+async fn tick(node: Arc<Shared>) {
+    loop {
+        tokio::time::sleep(core::TICK).await;
+        node.tell(Event::Tick);
+    }
+}

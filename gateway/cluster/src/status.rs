@@ -1,0 +1,256 @@
+//! How a cluster is: what `hobbychair cluster status` says.
+
+use std::collections::{BTreeMap, BTreeSet};
+use std::fmt::Write;
+use std::time::{Duration, Instant};
+
+use anyhow::{Context, Result};
+use serde::Serialize;
+use tokio::time::sleep;
+
+use crate::decision::View;
+use crate::etcd::{Entry, Operation};
+use crate::records::{self, last_number, Beat, Chain, Cluster, Line, Registration};
+use crate::roster::Roster;
+use crate::silence::Silence;
+
+/// Beats are looked at for so long.
+const LOOK: Duration = Duration::from_millis(1200);
+
+/// One server.
+#[derive(Debug, Serialize)]
+struct Server {
+    number: u32,
+    address: Option<String>,
+    role: &'static str,
+    /// How many entries it has, as it said by its last beat.
+    count: u64,
+    /// How many it lacks of those that the head has.
+    lag: u64,
+    /// Whether its beat changed while this was looked at.
+    beats: bool,
+    hears: Vec<u32>,
+    is_full: bool,
+    is_acting: bool,
+    is_condemned: bool,
+    clients: usize,
+}
+
+/// A whole cluster.
+#[derive(Debug, Serialize)]
+pub struct Status {
+    cluster: String,
+    incarnation: String,
+    /// How many lines the master's log has.
+    line: u64,
+    is_ready: bool,
+    servers: Vec<Server>,
+    detected: Vec<u32>,
+    /// Why the chain waits, if it does.
+    waits: Option<String>,
+}
+
+/// What is read at once.
+struct Look {
+    chain: Chain,
+    beats: BTreeMap<u32, (i64, Beat)>,
+    registrations: BTreeMap<u32, Registration>,
+    condemned: BTreeSet<u32>,
+    detected: Vec<u32>,
+}
+
+/// Looks at a cluster twice, so that it sees who beats.
+pub async fn look(cluster: &Cluster) -> Result<Status> {
+    let begun = Instant::now();
+    let mut silence = Silence::default();
+    let first = read(cluster).await?;
+    silence.look(beats_of(&first), &roster(cluster, &first.chain), begun.elapsed(), begun.elapsed());
+    sleep(LOOK / 2).await;
+    let second = read(cluster).await?;
+    silence.look(beats_of(&second), &roster(cluster, &second.chain), begun.elapsed(), begun.elapsed());
+    sleep(LOOK / 2).await;
+    let last = read(cluster).await?;
+    let beating = |server: &u32| {
+        let revision = |look: &Look| look.beats.get(server).map(|(revision, _)| *revision);
+        revision(&last).is_some() && revision(&last) != revision(&first)
+    };
+    let roster = roster(cluster, &last.chain);
+    silence.look(beats_of(&last), &roster, begun.elapsed(), begun.elapsed());
+    let view = View {
+        keys: &cluster.keys,
+        roster: &roster,
+        silence: &silence,
+        now: begun.elapsed(),
+        letters: &[],
+        condemned: &last.condemned,
+    };
+    let lost = |server: &u32| !beating(server) || last.condemned.contains(server);
+    let why = roster.line_of_servers().filter(lost).find_map(|server| Some((server, view.why_kept(server)?)));
+    let waits = why.map(|(server, why)| format!("server {server} doesn't beat or is condemned, and {why}"));
+    Ok(Status {
+        cluster: cluster.name.clone(),
+        incarnation: cluster.settings.incarnation.clone(),
+        line: last.chain.line,
+        is_ready: last.chain.is_ready,
+        servers: servers(&last, beating),
+        detected: last.detected.clone(),
+        waits,
+    })
+}
+
+fn servers(look: &Look, beats: impl Fn(&u32) -> bool) -> Vec<Server> {
+    let chain = &look.chain;
+    let count_of = |server: &u32| look.beats.get(server).map_or(0, |(_, beat)| beat.count);
+    let most = chain.members.first().map_or(0, count_of);
+    let wish = look.beats.iter().filter(|(server, (_, beat))| beat.joins && !chain.used.contains(server));
+    let all = chain.members.iter().chain(&chain.joiner).copied().chain(wish.map(|(server, _)| *server));
+    let server = |number: u32| {
+        let beat = look.beats.get(&number).map(|(_, beat)| beat.clone()).unwrap_or_default();
+        Server {
+            number,
+            address: look.registrations.get(&number).map(|registration| registration.address.to_string()),
+            role: role(chain, number),
+            count: beat.count,
+            lag: most.saturating_sub(beat.count),
+            beats: beats(&number),
+            hears: beat.hears,
+            is_full: chain.full.contains(&number),
+            is_acting: beat.is_acting,
+            is_condemned: look.condemned.contains(&number),
+            clients: beat.clients,
+        }
+    };
+    all.map(server).collect()
+}
+
+fn role(chain: &Chain, server: u32) -> &'static str {
+    let is_first = chain.members.first() == Some(&server);
+    let is_last = chain.members.last() == Some(&server);
+    match (is_first, is_last) {
+        (true, true) => "only",
+        (true, false) => "head",
+        (false, true) => "tail",
+        (false, false) if chain.members.contains(&server) => "middle",
+        (false, false) if chain.joiner == Some(server) => "joins",
+        (false, false) => "waits",
+    }
+}
+
+/// The chain as the log has it, made of what stands of it in etcd.
+fn roster(cluster: &Cluster, chain: &Chain) -> Roster {
+    let mut roster = Roster::of_first_chain(cluster.settings.servers);
+    roster.take_over(chain);
+    roster
+}
+
+fn beats_of(look: &Look) -> Vec<(u32, i64, Beat)> {
+    look.beats.iter().map(|(server, (revision, beat))| (*server, *revision, beat.clone())).collect()
+}
+
+async fn read(cluster: &Cluster) -> Result<Look> {
+    let keys = &cluster.keys;
+    let operations = [
+        Operation::Get(keys.chain()),
+        Operation::all(&keys.beats()),
+        Operation::all(&keys.nodes()),
+        Operation::all(&keys.all_condemned()),
+        Operation::all(&keys.all_detected()),
+    ];
+    let outcome = cluster.etcd.transact(&[cluster.guard()], &operations, &[]).await?;
+    anyhow::ensure!(outcome.succeeded, "the cluster of this name is another one now");
+    let [chain, beats, nodes, condemned, detected]: [Vec<Entry>; 5] =
+        outcome.read.try_into().ok().context("etcd answers with too little")?;
+    let numbers = |entries: &[Entry]| entries.iter().filter_map(|entry| last_number(&entry.key)).collect::<Vec<u32>>();
+    let mut look = Look {
+        chain: records::value(chain.first().context("the cluster has no chain")?)?,
+        beats: BTreeMap::new(),
+        registrations: BTreeMap::new(),
+        condemned: numbers(&condemned).into_iter().collect(),
+        detected: numbers(&detected),
+    };
+    for entry in beats {
+        if let Some(server) = last_number(&entry.key) {
+            look.beats.insert(server, (entry.revision, records::value(&entry)?));
+        }
+    }
+    for entry in nodes {
+        if let Some(server) = last_number(&entry.key) {
+            look.registrations.insert(server, records::value(&entry)?);
+        }
+    }
+    Ok(look)
+}
+
+/// The lines of the master's log, as texts of JSON.
+pub async fn log(cluster: &Cluster) -> Result<Vec<String>> {
+    let mut lines: Vec<String> = Vec::new();
+    loop {
+        let next = cluster.keys.lines_from(lines.len() as u64 + 1, 500);
+        let read = cluster.etcd.transact(&[cluster.guard()], &[next], &[]).await?.read;
+        let found: Vec<Entry> = read.into_iter().flatten().collect();
+        if found.is_empty() {
+            return Ok(lines);
+        }
+        for entry in &found {
+            lines.push(records::text(&records::value::<Line>(entry)?));
+        }
+    }
+}
+
+impl Status {
+    /// How many servers beat.
+    pub fn beating(&self) -> usize {
+        self.servers.iter().filter(|server| server.beats).count()
+    }
+
+    /// In columns, for people.
+    pub fn columns(&self) -> String {
+        let mut out = String::new();
+        let _ = writeln!(out, "cluster {} {}, line {} of the log", self.cluster, self.incarnation, self.line);
+        let head = ["server", "address", "role", "count", "lag", "beats", "hears", "full", "acts"].map(String::from);
+        let rows: Vec<[String; 9]> = std::iter::once(head).chain(self.servers.iter().map(row)).collect();
+        let width = |column: usize| rows.iter().map(|row| row[column].len()).max().unwrap_or(0);
+        let widths: Vec<usize> = (0..9).map(width).collect();
+        for row in &rows {
+            let cells: Vec<String> = row.iter().zip(&widths).map(|(cell, width)| format!("{cell:width$}")).collect();
+            let _ = writeln!(out, "{}", cells.join("  ").trim_end());
+        }
+        if !self.is_ready {
+            let _ = writeln!(out, "the last member doesn't act yet");
+        }
+        if let Some(why) = &self.waits {
+            let _ = writeln!(out, "the chain waits: {why}");
+        }
+        out
+    }
+}
+
+fn row(server: &Server) -> [String; 9] {
+    let yes = |is: bool| if is { "yes" } else { "no" }.to_string();
+    let hears: Vec<String> = server.hears.iter().map(ToString::to_string).collect();
+    [
+        server.number.to_string(),
+        server.address.clone().unwrap_or_else(|| "-".into()),
+        server.role.into(),
+        server.count.to_string(),
+        server.lag.to_string(),
+        if server.is_condemned { "condemned".into() } else { yes(server.beats) },
+        hears.join(","),
+        yes(server.is_full),
+        yes(server.is_acting),
+    ]
+}
+
+#[cfg(test)]
+mod tests {
+    use super::*;
+
+    #[test]
+    fn roles_are_those_of_the_chain() {
+        let chain =
+            Chain { line: 1, members: vec![2, 4, 3], joiner: Some(5), is_ready: true, full: vec![], used: vec![1] };
+        assert_eq!([2, 4, 3, 5, 6].map(|server| role(&chain, server)), ["head", "middle", "tail", "joins", "waits"]);
+        let alone = Chain { members: vec![2], ..chain };
+        assert_eq!(role(&alone, 2), "only");
+    }
+}

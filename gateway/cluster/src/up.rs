@@ -1,0 +1,180 @@
+//! `hobbychair cluster up`: a whole cluster on this machine, to try it.
+
+use std::fs::{self, File};
+use std::net::{Ipv4Addr, TcpListener};
+use std::path::{Path, PathBuf};
+use std::process::{Child, Command, Stdio};
+use std::time::{Duration, Instant};
+
+use anyhow::{bail, Context, Result};
+use tokio::signal::unix::{signal, SignalKind};
+use tokio::time::sleep;
+
+use crate::child::end_with_this_process;
+use crate::records::Cluster;
+use crate::status;
+
+/// What the cluster is called.
+const NAME: &str = "try";
+
+/// So long etcd may take to begin.
+const ETCD: Duration = Duration::from_secs(20);
+
+/// So long the nodes may take.
+const NODES: Duration = Duration::from_secs(30);
+
+/// A process of the cluster. It is ended with this one.
+struct Process {
+    name: String,
+    child: Child,
+}
+
+impl Drop for Process {
+    fn drop(&mut self) {
+        // One that has ended already needs no end.
+        let _ = self.child.kill();
+        let _ = self.child.wait();
+    }
+}
+
+/// Starts etcd, two candidates for the master and so many nodes in a folder, and runs until a signal comes.
+pub async fn up(nodes: u32, folder: &Path, program: &str) -> Result<()> {
+    let mut interrupts = signal(SignalKind::interrupt())?;
+    let mut terminations = signal(SignalKind::terminate())?;
+    make_folder(folder)?;
+    let (clients, peers) = (free_port()?, free_port()?);
+    let url = format!("http://127.0.0.1:{clients}");
+    let urls = [url.clone()];
+    let mut processes = vec![start_etcd(folder, &url, peers)?];
+    create(&urls, nodes).await?;
+    let this = std::env::current_exe()?;
+    let start = |name: &str, words: &[&str]| -> Result<Process> {
+        let mut command = Command::new(&this);
+        command.args(words).args(["--cluster", NAME, "--etcd", &url, "--cq", program]);
+        begin(command, folder, name)
+    };
+    for number in 1..=nodes {
+        let first = number.to_string();
+        processes.push(start(&format!("node-{number}"), &["node", "--listen", "127.0.0.1:0", "--first", &first])?);
+    }
+    for number in 1..=2 {
+        processes.push(start(&format!("master-{number}"), &["master"])?);
+    }
+    let cluster = Cluster::find(NAME, &urls).await?;
+    say(&cluster, nodes, &url, folder).await?;
+    let mut rounds = tokio::time::interval(Duration::from_millis(500));
+    loop {
+        tokio::select! {
+            _ = interrupts.recv() => break,
+            _ = terminations.recv() => break,
+            _ = rounds.tick() => processes.retain_mut(goes_on),
+        }
+    }
+    // The last ones first, so that nobody is taken for lost.
+    while let Some(process) = processes.pop() {
+        drop(process);
+    }
+    println!("the cluster is down");
+    Ok(())
+}
+
+fn goes_on(process: &mut Process) -> bool {
+    match process.child.try_wait() {
+        Ok(Some(status)) => {
+            println!("{} has ended ({status})", process.name);
+            false
+        }
+        _ => true,
+    }
+}
+
+/// A folder of its own: one that was used is never emptied.
+fn make_folder(folder: &Path) -> Result<()> {
+    fs::create_dir_all(folder).with_context(|| format!("{} can't be made", folder.display()))?;
+    let is_empty =
+        fs::read_dir(folder).with_context(|| format!("{} can't be read", folder.display()))?.next().is_none();
+    if !is_empty {
+        bail!(
+            "{} was used before, and is left as it is: nodes keep nothing on disk yet, so give another folder",
+            folder.display()
+        );
+    }
+    Ok(())
+}
+
+fn free_port() -> Result<u16> {
+    Ok(TcpListener::bind((Ipv4Addr::LOCALHOST, 0))?.local_addr()?.port())
+}
+
+fn start_etcd(folder: &Path, url: &str, peers: u16) -> Result<Process> {
+    let peer = format!("http://127.0.0.1:{peers}");
+    let mut command = Command::new("etcd");
+    command.arg("--data-dir").arg(folder.join("etcd")).args([
+        "--name=one",
+        &format!("--listen-client-urls={url}"),
+        &format!("--advertise-client-urls={url}"),
+        &format!("--listen-peer-urls={peer}"),
+        &format!("--initial-advertise-peer-urls={peer}"),
+        &format!("--initial-cluster=one={peer}"),
+        "--auto-compaction-mode=periodic",
+        "--auto-compaction-retention=1m",
+        "--logger=zap",
+        "--log-level=warn",
+    ]);
+    begin(command, folder, "etcd").context("etcd is Debian's package etcd-server")
+}
+
+/// Starts a process whose output goes to a file.
+fn begin(mut command: Command, folder: &Path, name: &str) -> Result<Process> {
+    let path: PathBuf = folder.join(format!("{name}.log"));
+    let log = File::create(&path).with_context(|| format!("{} can't be written", path.display()))?;
+    command.stdin(Stdio::null()).stdout(log.try_clone()?).stderr(log);
+    end_with_this_process(&mut command);
+    let child = command.spawn().with_context(|| format!("{name} can't be started"))?;
+    Ok(Process { name: name.into(), child })
+}
+
+async fn create(urls: &[String], nodes: u32) -> Result<()> {
+    let begun = Instant::now();
+    loop {
+        match Cluster::create(NAME, urls, nodes).await {
+            Ok(_) => return Ok(()),
+            Err(error) if begun.elapsed() > ETCD => return Err(error.context("etcd doesn't begin")),
+            Err(_) => sleep(Duration::from_millis(100)).await,
+        }
+    }
+}
+
+async fn say(cluster: &Cluster, nodes: u32, url: &str, folder: &Path) -> Result<()> {
+    let begun = Instant::now();
+    loop {
+        let status = status::look(cluster).await?;
+        if status.beating() >= nodes as usize {
+            print!("{}", status.columns());
+            break;
+        }
+        if begun.elapsed() > NODES {
+            bail!("the nodes don't begin: {} has what they say", folder.display());
+        }
+    }
+    println!("to look at it: hobbychair cluster status --cluster {NAME} --etcd {url}");
+    println!("to add a node: hobbychair node --cluster {NAME} --etcd {url} --listen 127.0.0.1:0 --join");
+    println!("the cluster is up, until this is interrupted");
+    Ok(())
+}
+
+#[cfg(test)]
+mod tests {
+    use super::*;
+
+    #[test]
+    fn a_folder_that_was_used_is_left_alone() {
+        let folder = std::env::temp_dir().join(format!("hobbychair-{}", crate::records::random_name()));
+        make_folder(&folder).unwrap();
+        make_folder(&folder).unwrap();
+        fs::write(folder.join("one"), "kept").unwrap();
+        assert!(make_folder(&folder).unwrap_err().to_string().contains("left as it is"));
+        assert_eq!(fs::read_to_string(folder.join("one")).unwrap(), "kept");
+        fs::remove_dir_all(folder).unwrap();
+    }
+}
