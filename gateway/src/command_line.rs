@@ -7,6 +7,7 @@ use std::path::{Path, PathBuf};
 use anyhow::{anyhow, Result};
 use clap::{Args, CommandFactory, Parser, Subcommand};
 use clap_complete::Shell;
+use hobbychair_cluster::command_line as cluster;
 
 use crate::config::{LogFormat, LogLevel, LogSettings, Misuse, Options};
 use crate::inspect;
@@ -40,6 +41,13 @@ enum Command {
         /// The copy, named in the same way
         copy: PathBuf,
     },
+    /// Run a server of a chain on several machines
+    Node(Box<cluster::Node>),
+    /// Run a candidate for the master of such a chain
+    Master(cluster::Master),
+    /// Make, look at or try a chain on several machines
+    #[command(subcommand)]
+    Cluster(cluster::OfCluster),
     /// Write the completions of this command line for a shell
     Completions {
         /// The shell
@@ -95,6 +103,20 @@ fn run(command: Command) -> Result<()> {
         Command::Backup { journal: Journal { file, cq }, copy } => {
             inspect::back_up(&program(cq)?, &file, &copy, &mut out)?;
         }
+        Command::Node(node) => {
+            begin_log(plain_log())?;
+            let program = program(node.cq.clone())?;
+            cluster::run_node(*node, program)?;
+        }
+        Command::Master(master) => {
+            begin_log(plain_log())?;
+            cluster::run_master(&master, &program(master.cq.clone())?)?;
+        }
+        Command::Cluster(asked) => {
+            begin_log(plain_log())?;
+            let program = asked.cq().map(program).transpose()?;
+            cluster::run_cluster(asked, program)?;
+        }
         Command::Completions { shell } => {
             clap_complete::generate(shell, &mut CommandLine::command(), "hobbychair", &mut out);
         }
@@ -129,6 +151,10 @@ fn begin_log(how: LogSettings) -> Result<()> {
         LogFormat::Json => lines.json().flatten_event(true).with_target(false).init(),
     }
     Ok(())
+}
+
+fn plain_log() -> LogSettings {
+    LogSettings { level: LogLevel::Info, format: LogFormat::Text }
 }
 
 fn program(given: Option<String>) -> Result<String> {
