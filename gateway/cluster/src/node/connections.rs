@@ -1,7 +1,7 @@
 //! Connections that come to a node's port: links of other nodes, clients, and strangers.
 
 use std::io;
-use std::sync::atomic::{AtomicU64, AtomicUsize, Ordering};
+use std::sync::atomic::{AtomicBool, AtomicU64, AtomicUsize, Ordering};
 use std::sync::Arc;
 use std::time::Duration;
 
@@ -44,7 +44,16 @@ static CONNECTIONS: AtomicU64 = AtomicU64::new(1);
 /// What a node tells back over a link's connection: which frame it has received last.
 pub struct Acknowledging {
     pub received: AtomicU64,
+    pub is_over: AtomicBool,
     pub wake: Notify,
+}
+
+impl Acknowledging {
+    /// The connection ends.
+    pub fn end(&self) {
+        self.is_over.store(true, Ordering::Release);
+        self.wake.notify_one();
+    }
 }
 
 /// How a link goes on over a new connection.
@@ -162,11 +171,14 @@ async fn link(
 ) -> io::Result<()> {
     let (reply, replied) = oneshot::channel();
     node.tell(Event::Linking { from, gone, reply });
-    let Ok(Some(Linked { connection, received, acknowledging })) = replied.await else {
-        return turn_away(writing, format!("server {from} was detected")).await;
-    };
+    let linked = replied.await.ok().flatten();
+    // A server that was detected, and doesn't know it, reads here that it is gone.
+    let received = linked.as_ref().map_or(0, |linked| linked.received);
     let welcome = Frame::Welcome { received, gone: node.all_gone() };
     timeout(QUIET, writing.write_all(&welcome.bytes())).await??;
+    let Some(Linked { connection, acknowledging, .. }) = linked else {
+        return Err(other(&format!("server {from} was detected")));
+    };
     let read = async {
         loop {
             let frame = read(timeout(QUIET, reading.next()).await??)?;
@@ -183,6 +195,9 @@ async fn link(
     let write = async {
         loop {
             acknowledging.wake.notified().await;
+            if acknowledging.is_over.load(Ordering::Acquire) {
+                return Err(other("its server was detected, or it has another connection"));
+            }
             let frame = acknowledging.received.load(Ordering::Acquire);
             timeout(QUIET, writing.write_all(&Frame::Received { frame }.bytes())).await??;
         }

@@ -2,7 +2,7 @@
 
 use std::collections::{BTreeMap, BTreeSet, VecDeque};
 use std::path::Path;
-use std::sync::atomic::{AtomicU64, Ordering};
+use std::sync::atomic::{AtomicBool, AtomicU64, Ordering};
 use std::sync::Arc;
 use std::time::{Duration, Instant};
 
@@ -346,7 +346,10 @@ impl Core {
             if let Some(link) = self.links.remove(server) {
                 link.close();
             }
-            self.peers.remove(server);
+            if let Some(peer) = self.peers.remove(server) {
+                // It begins a new one, and is told there.
+                peer.acknowledging.end();
+            }
             self.inboxes.remove(&Party::Server(*server));
             self.waiting.remove(&Party::Server(*server));
             self.links.values().for_each(|link| link.send_gone(*server));
@@ -374,9 +377,16 @@ impl Core {
     fn begin_connection(&mut self, from: u32) -> Linked {
         let connection = next_connection();
         let received = self.peers.get(&from).map_or(0, |peer| peer.received);
-        let acknowledging = Arc::new(Acknowledging { received: AtomicU64::new(received), wake: Notify::new() });
+        let acknowledging = Arc::new(Acknowledging {
+            received: AtomicU64::new(received),
+            is_over: AtomicBool::new(false),
+            wake: Notify::new(),
+        });
         let heard = self.peers.get(&from).and_then(|peer| peer.heard);
-        self.peers.insert(from, Peer { connection, received, heard, acknowledging: acknowledging.clone() });
+        let peer = Peer { connection, received, heard, acknowledging: acknowledging.clone() };
+        if let Some(before) = self.peers.insert(from, peer) {
+            before.acknowledging.end();
+        }
         Linked { connection, received, acknowledging }
     }
 

@@ -1,0 +1,303 @@
+"""A cluster that was started for tests: etcd, masters and nodes, each a process that a test can kill or stop."""
+
+from __future__ import annotations
+
+import base64
+import json
+import os
+import shutil
+import signal
+import socket
+import subprocess
+import threading
+import time
+import urllib.request
+from collections.abc import Callable
+from pathlib import Path
+from typing import Any
+
+from started import gateway_program, program
+
+NAME = "tested"
+
+
+def has_etcd() -> bool:
+    return shutil.which("etcd") is not None
+
+
+def free_ports(count: int) -> list[int]:
+    listeners = [socket.create_server(("127.0.0.1", 0)) for _ in range(count)]
+    ports = [listener.getsockname()[1] for listener in listeners]
+    for listener in listeners:
+        listener.close()
+    return ports
+
+
+def run(*words: str, timeout: float = 30) -> subprocess.CompletedProcess:
+    """Runs the command to its end."""
+    return subprocess.run([gateway_program(), *words], env={**os.environ, "HOBBYCHAIR_CQ": program()}, timeout=timeout,
+                          capture_output=True, text=True)
+
+
+class Etcd:
+    """One etcd, of one member or of three."""
+
+    def __init__(self, room: Path, members: int = 1) -> None:
+        self.room = room
+        ports = free_ports(2 * members)
+        self.urls = [f"http://127.0.0.1:{port}" for port in ports[:members]]
+        self.peers = [f"http://127.0.0.1:{port}" for port in ports[members:]]
+        self.processes = [self.start(place) for place in range(members)]
+        wait(20, self.answers, "etcd doesn't begin")
+
+    def start(self, place: int) -> subprocess.Popen:
+        cluster = ",".join(f"m{one}={peer}" for one, peer in enumerate(self.peers))
+        words = ["etcd", "--name", f"m{place}", "--data-dir", str(self.room / f"etcd{place}"),
+                 "--listen-client-urls", self.urls[place], "--advertise-client-urls", self.urls[place],
+                 "--listen-peer-urls", self.peers[place], "--initial-advertise-peer-urls", self.peers[place],
+                 "--initial-cluster", cluster, "--logger", "zap", "--log-level", "error"]
+        with open(self.room / f"etcd{place}.log", "ab") as log:
+            return subprocess.Popen(words, stdin=subprocess.DEVNULL, stdout=log, stderr=log)
+
+    def ask(self, path: str, body: dict[str, Any], patience: float = 0.7) -> dict[str, Any]:
+        """The answer of the first member that gives one."""
+        data = json.dumps(body).encode()
+        for url in self.urls:
+            try:
+                request = urllib.request.Request(url + path, data, {"Content-Type": "application/json"})
+                with urllib.request.urlopen(request, timeout=patience) as answer:
+                    return json.load(answer)
+            except OSError:
+                continue
+        raise ConnectionError("no member of etcd answers")
+
+    def answers(self) -> bool:
+        try:
+            self.read("a")
+            return True
+        except ConnectionError:
+            return False
+
+    def read(self, prefix: str) -> dict[str, str]:
+        last = prefix[:-1] + chr(ord(prefix[-1]) + 1)
+        answer = self.ask("/v3/kv/range", {"key": _digits(prefix), "range_end": _digits(last)})
+        return {_text(found["key"]): _text(found.get("value", "")) for found in answer.get("kvs", [])}
+
+    def write(self, key: str, value: str) -> None:
+        self.ask("/v3/kv/put", {"key": _digits(key), "value": _digits(value)})
+
+    def signal(self, number: int, places: list[int] | None = None) -> None:
+        for place, process in enumerate(self.processes):
+            if places is None or place in places:
+                process.send_signal(number)
+
+    def end(self) -> None:
+        for process in self.processes:
+            process.kill()
+            process.wait()
+
+
+def _digits(text: str) -> str:
+    return base64.b64encode(text.encode()).decode()
+
+
+def _text(digits: str) -> str:
+    return base64.b64decode(digits).decode()
+
+
+class Proxy:
+    """Stands between one node and etcd, and can be cut."""
+
+    def __init__(self, url: str) -> None:
+        self.port = int(url.rsplit(":", 1)[1])
+        self.listener = socket.create_server(("127.0.0.1", 0))
+        self.url = f"http://127.0.0.1:{self.listener.getsockname()[1]}"
+        self.is_cut = False
+        self.open: list[socket.socket] = []
+        threading.Thread(target=self.accept, daemon=True).start()
+
+    def accept(self) -> None:
+        while True:
+            try:
+                one, _ = self.listener.accept()
+                if self.is_cut:
+                    one.close()
+                    continue
+                other = socket.create_connection(("127.0.0.1", self.port))
+            except OSError:
+                if self.listener.fileno() < 0:
+                    return
+                continue
+            self.open += [one, other]
+            for a, b in ((one, other), (other, one)):
+                threading.Thread(target=self.carry, args=(a, b), daemon=True).start()
+
+    @staticmethod
+    def carry(a: socket.socket, b: socket.socket) -> None:
+        try:
+            while data := a.recv(1 << 16):
+                b.sendall(data)
+        except OSError:
+            pass
+        for one in (a, b):
+            try:
+                one.shutdown(socket.SHUT_RDWR)
+            except OSError:
+                pass
+
+    def cut(self) -> None:
+        self.is_cut = True
+        for one in self.open:
+            try:
+                one.shutdown(socket.SHUT_RDWR)
+            except OSError:
+                pass
+        self.open.clear()
+
+    def mend(self) -> None:
+        self.is_cut = False
+
+    def end(self) -> None:
+        self.listener.close()
+        self.cut()
+
+
+class Node:
+    """A process of a node."""
+
+    def __init__(self, process: subprocess.Popen, log: Path, trace: Path, proxy: Proxy | None) -> None:
+        self.process, self.log, self.trace, self.proxy = process, log, trace, proxy
+        self.server = 0
+        self.port = 0
+
+    def look(self) -> bool:
+        """Whether it has said who it is."""
+        for line in self.log.read_text().splitlines():
+            if line.startswith("server ") and " listens on " in line:
+                words = line.split()
+                self.server, self.port = int(words[1]), int(words[-1].rsplit(":", 1)[1])
+        return self.server > 0
+
+    def child(self) -> int:
+        """The process of its server."""
+        threads = Path(f"/proc/{self.process.pid}/task").glob("*/children")
+        return next(int(child) for one in threads for child in one.read_text().split())
+
+    def stop(self) -> None:
+        """The server is stopped, too, as on a machine that stands still."""
+        for one in (self.process.pid, self.child()):
+            os.kill(one, signal.SIGSTOP)
+
+    def go_on(self) -> None:
+        for one in (self.child(), self.process.pid):
+            os.kill(one, signal.SIGCONT)
+
+    def lives(self) -> bool:
+        return self.process.poll() is None
+
+
+class Cluster:
+    """A cluster on this machine."""
+
+    def __init__(self, room: Path, size: int = 3, members: int = 1, masters: int = 2, absent: tuple[int, ...] = ()) -> None:
+        self.room, self.size = room, size
+        self.etcd = Etcd(room, members)
+        made = run("cluster", "create", "--cluster", NAME, "--etcd", ",".join(self.etcd.urls), "--nodes", str(size))
+        assert made.returncode == 0, made.stderr
+        self.incarnation = json.loads(self.etcd.read(f"hobbychair/{NAME}/cluster")[f"hobbychair/{NAME}/cluster"])["incarnation"]
+        self.root = f"hobbychair/{NAME}/{self.incarnation}"
+        self.nodes: list[Node] = []
+        self.masters: list[subprocess.Popen] = []
+        self.last: dict[str, Any] = {}
+        for server in range(1, size + 1):
+            if server not in absent:
+                self.start_node(server)
+        for _ in range(masters):
+            self.start_master()
+        wait(20, lambda: all(node.look() for node in self.nodes), "the nodes don't begin")
+
+    def _start(self, name: str, *words: str) -> tuple[subprocess.Popen, Path]:
+        log = self.room / f"{name}.log"
+        with open(log, "ab") as out:
+            return subprocess.Popen([gateway_program(), *words], env={**os.environ, "HOBBYCHAIR_CQ": program()},
+                                    stdin=subprocess.DEVNULL, stdout=out, stderr=out), log
+
+    def start_node(self, first: int | None = None) -> Node:
+        name = f"node{len(self.nodes) + 1}"
+        proxy = Proxy(self.etcd.urls[0]) if len(self.etcd.urls) == 1 else None
+        urls = proxy.url if proxy else ",".join(self.etcd.urls)
+        trace = self.room / f"{name}.trace"
+        how = ["--first", str(first)] if first else ["--join"]
+        process, log = self._start(name, "node", "--cluster", NAME, "--etcd", urls, "--listen", "127.0.0.1:0",
+                                   "--trace", str(trace), *how)
+        node = Node(process, log, trace, proxy)
+        self.nodes.append(node)
+        return node
+
+    def start_master(self) -> None:
+        process, _ = self._start(f"master{len(self.masters) + 1}", "master", "--cluster", NAME, "--etcd", ",".join(self.etcd.urls))
+        self.masters.append(process)
+
+    def node(self, server: int) -> Node:
+        return next(node for node in self.nodes if node.look() and node.server == server)
+
+    def chain(self) -> dict[str, Any]:
+        """The chain as etcd has it, or as it had it when it last answered."""
+        try:
+            self.last = json.loads(self.etcd.read(f"{self.root}/master/chain")[f"{self.root}/master/chain"])
+        except ConnectionError:
+            pass
+        return self.last
+
+    def log(self) -> list[dict[str, Any]]:
+        lines = self.etcd.read(f"{self.root}/master/log/")
+        return [json.loads(lines[key]) for key in sorted(lines)]
+
+    def detected(self) -> list[int]:
+        return [line["detect"]["server"] for line in self.log() if "detect" in line]
+
+    def condemn(self, server: int) -> None:
+        self.etcd.write(f"{self.root}/master/condemned/{server:010}", "by a test")
+
+    def settles(self, members: list[int]) -> Callable[[], bool]:
+        """Whether the chain is this one, and all of it is full."""
+        def is_so() -> bool:
+            chain = self.chain()
+            return chain["members"] == members and chain["is_ready"] and sorted(chain["full"]) == sorted(members)
+        return is_so
+
+    def kill(self, server: int) -> None:
+        node = self.node(server)
+        node.process.kill()
+        node.process.wait()
+
+    def stop_masters(self) -> None:
+        for master in self.masters:
+            master.send_signal(signal.SIGSTOP)
+
+    def masters_go_on(self) -> None:
+        for master in self.masters:
+            master.send_signal(signal.SIGCONT)
+
+    def said(self) -> str:
+        """All that the processes said, for the report of a test that failed."""
+        logs = sorted(self.room.glob("*.log"))
+        return "\n".join(f"---- {log.name}\n{log.read_text()[-3000:]}" for log in logs)
+
+    def end(self) -> None:
+        for process in [node.process for node in self.nodes] + self.masters:
+            process.kill()
+            process.wait()
+        for node in self.nodes:
+            if node.proxy:
+                node.proxy.end()
+        self.etcd.end()
+
+
+def wait(seconds: float, what: Callable[[], bool], why: str) -> float:
+    """Waits until that is so, and tells for how long."""
+    begun = time.monotonic()
+    while not what():
+        assert time.monotonic() - begun < seconds, why
+        time.sleep(0.02)
+    return time.monotonic() - begun

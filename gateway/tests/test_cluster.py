@@ -1,0 +1,143 @@
+"""A chain on several machines: what users are answered while nodes are lost, stopped and joined, and while etcd is away."""
+
+from __future__ import annotations
+
+import os
+import signal
+import time
+from collections.abc import Callable, Iterator
+from pathlib import Path
+
+import pytest
+
+from cluster_oracle import check
+from cluster_users import Users
+from clusters import Cluster, has_etcd, wait
+
+SEED = int(os.environ.get("HOBBYCHAIR_TEST_SEED", "1"))
+
+pytestmark = pytest.mark.skipif(not has_etcd(), reason="etcd isn't there: Debian's etcd-server has it")
+
+
+@pytest.fixture
+def start(tmp_path: Path) -> Iterator[Callable[..., tuple[Cluster, Users]]]:
+    """Starts a cluster with users, and checks behind the test all that was told and answered."""
+    begun: list[tuple[Cluster, Users]] = []
+
+    def start(**how) -> tuple[Cluster, Users]:
+        cluster = Cluster(tmp_path, **how)
+        users = Users(cluster, SEED)
+        begun.append((cluster, users))
+        wait(15, lambda: len(users.records) > 50, "users aren't answered")
+        # By now each candidate has seen each beat change.
+        time.sleep(1.5)
+        return cluster, users
+
+    yield start
+    for cluster, users in begun:
+        try:
+            users.stop()
+            events = check(cluster, users)
+            print(f"{len(users.records)} answers, {events} events")
+        except BaseException:
+            print(cluster.said())
+            raise
+        finally:
+            cluster.end()
+
+
+def answered(users: Users, seconds: float = 10) -> float:
+    """Waits for answers to requests that were asked from now on, and tells for how long."""
+    now = time.monotonic()
+    return wait(seconds, lambda: len([one for one in users.records[-30:] if one.asked > now]) > 5, "nobody is answered")
+
+
+@pytest.mark.parametrize("lost", [1, 2, 3], ids=["head", "middle", "tail"])
+def test_a_server_is_lost(start, lost):
+    cluster, users = start()
+    begun = time.monotonic()
+    cluster.kill(lost)
+    rest = [server for server in (1, 2, 3) if server != lost]
+    wait(10, cluster.settles(rest), "it isn't detected")
+    answered(users)
+    silence = users.longest_silence(begun - 0.5)
+    print(f"{silence:.2f} s without an answer")
+    assert silence < 5
+
+
+def test_a_node_joins(start):
+    cluster, users = start()
+    begun = time.monotonic()
+    cluster.start_node()
+    wait(10, cluster.settles([1, 2, 3, 4]), "it doesn't become a member")
+    answered(users)
+    assert users.longest_silence(begun) < 2
+    # All others are lost, so that all depends on what it was fed with.
+    for server in (1, 2, 3):
+        cluster.kill(server)
+    wait(15, cluster.settles([4]), "they aren't detected")
+    answered(users)
+
+
+def test_a_node_is_stopped_and_goes_on(start):
+    cluster, users = start()
+    node = cluster.node(2)
+    node.stop()
+    wait(10, cluster.settles([1, 3]), "it isn't detected")
+    answered(users)
+    time.sleep(1.5)
+    node.go_on()
+    wait(5, lambda: not node.lives(), "it doesn't end though the log says that it is lost")
+    assert node.process.returncode == 0 and "the master's log says that it is lost" in node.log.read_text()
+
+
+def test_etcd_is_stopped(start):
+    cluster, users = start()
+    begun = time.monotonic()
+    cluster.etcd.signal(signal.SIGSTOP)
+    try:
+        time.sleep(6)
+    finally:
+        cluster.etcd.signal(signal.SIGCONT)
+    assert users.longest_silence(begun) < 2
+    time.sleep(3)
+    assert cluster.settles([1, 2, 3])() and cluster.detected() == []
+    answered(users)
+
+
+def test_all_nodes_are_stopped_at_once(start):
+    cluster, users = start()
+    for node in cluster.nodes:
+        node.stop()
+    time.sleep(5)
+    for node in cluster.nodes:
+        node.go_on()
+        time.sleep(0.2)
+    answered(users)
+    time.sleep(3)
+    assert cluster.detected() == [], "the first one to awake has the others thrown out"
+
+
+def test_a_server_that_is_detected_while_it_lives_ends(start):
+    """It hears of it by a link, since it doesn't reach etcd."""
+    cluster, users = start()
+    node = cluster.node(2)
+    node.proxy.cut()
+    cluster.condemn(2)
+    wait(5, lambda: not node.lives(), "nobody tells it")
+    assert "the master's log says that it is lost" in node.log.read_text()
+    wait(5, cluster.settles([1, 3]), "the chain doesn't go on")
+    answered(users)
+
+
+def test_the_last_full_member_is_kept(start):
+    """The chain waits rather than to go on without what was acknowledged."""
+    cluster, users = start(size=2)
+    cluster.kill(1)
+    wait(10, cluster.settles([2]), "it isn't detected")
+    answered(users)
+    cluster.condemn(2)
+    wait(3, lambda: not cluster.etcd.read(f"{cluster.root}/master/condemned/"), "nobody undoes it")
+    time.sleep(0.5)
+    assert cluster.node(2).lives() and cluster.chain()["members"] == [2]
+    answered(users)
