@@ -9,7 +9,7 @@ use clap::{ArgGroup, Args, Subcommand};
 use crate::node::{self, Beginning, End};
 use crate::records::Cluster;
 use crate::roster::MOST_MEMBERS;
-use crate::{master, status, up};
+use crate::{master, say, status, up};
 
 /// Which cluster a command is about.
 #[derive(Args)]
@@ -139,14 +139,14 @@ pub fn run_cluster(asked: OfCluster, program: Option<String>) -> Result<()> {
             OfCluster::Status { which, json } => {
                 let status = status::look(&which.find().await?).await?;
                 if json {
-                    println!("{}", serde_json::to_string(&status)?);
+                    say(&serde_json::to_string(&status)?);
                 } else {
-                    print!("{}", status.columns());
+                    say(status.columns().trim_end());
                 }
                 Ok(())
             }
             OfCluster::Log { which } => {
-                status::log(&which.find().await?).await?.iter().for_each(|line| println!("{line}"));
+                status::log(&which.find().await?).await?.iter().for_each(|line| say(line));
                 Ok(())
             }
             OfCluster::Up { nodes, folder, .. } => {
@@ -160,8 +160,8 @@ pub fn run_cluster(asked: OfCluster, program: Option<String>) -> Result<()> {
 async fn create(which: &Which, nodes: u32) -> Result<()> {
     test_size(nodes)?;
     let cluster = Cluster::create(&which.cluster, &which.etcd, nodes).await?;
-    println!("cluster {} is there, of incarnation {}", cluster.name, cluster.settings.incarnation);
-    println!("its servers 1 to {nodes} begin by: hobbychair node --first N");
+    say(&format!("cluster {} is there, of incarnation {}", cluster.name, cluster.settings.incarnation));
+    say(&format!("its servers 1 to {nodes} begin by: hobbychair node --first N"));
     Ok(())
 }
 

@@ -122,3 +122,135 @@ impl View<'_> {
         })
     }
 }
+
+#[cfg(test)]
+mod tests {
+    use super::*;
+    use crate::records::Beat;
+
+    const HALF: Duration = Duration::from_millis(500);
+
+    /// A candidate that has looked at two or three servers for a while.
+    struct Candidate {
+        roster: Roster,
+        silence: Silence,
+        now: Duration,
+        revision: i64,
+        letters: Vec<Letter>,
+        condemned: BTreeSet<u32>,
+    }
+
+    impl Candidate {
+        fn new(size: u32) -> Candidate {
+            let roster = Roster::of_first_chain(size);
+            let (letters, condemned) = (Vec::new(), BTreeSet::new());
+            Candidate { roster, silence: Silence::default(), now: Duration::ZERO, revision: 0, letters, condemned }
+        }
+
+        /// So many looks, at each of which these servers have beaten; the others have beaten before.
+        fn look(&mut self, count: u32, beat: &[u32], others: &[u32], joins: Option<u32>) {
+            for _ in 0..count {
+                self.now += HALF;
+                self.revision += 1;
+                let beats =
+                    beat.iter().map(|server| (*server, self.revision)).chain(others.iter().map(|server| (*server, 1)));
+                let with_beat =
+                    |(server, revision)| (server, revision, Beat { joins: joins == Some(server), ..Beat::default() });
+                self.silence.look(beats.map(with_beat).collect(), &self.roster, self.now, self.now);
+            }
+        }
+
+        fn decide(&self) -> (Decision, Option<String>) {
+            let keys = Keys::for_tests();
+            let view = View {
+                keys: &keys,
+                roster: &self.roster,
+                silence: &self.silence,
+                now: self.now,
+                letters: &self.letters,
+                condemned: &self.condemned,
+            };
+            view.decide()
+        }
+
+        fn line(&self) -> Option<Line> {
+            match self.decide().0 {
+                Decision::Append { line, .. } => Some(line),
+                _ => None,
+            }
+        }
+    }
+
+    #[test]
+    fn a_silent_server_is_detected_under_the_guard_of_its_beat() {
+        let mut candidate = Candidate::new(3);
+        candidate.look(4, &[1, 3], &[2], None);
+        assert_eq!(candidate.line(), None);
+        candidate.look(3, &[1, 3], &[2], None);
+        let (decision, why) = candidate.decide();
+        let Decision::Append { line, guards, .. } = decision else { panic!("{decision:?}") };
+        assert_eq!((line, why), (Line::Detect { server: 2 }, None));
+        assert_eq!(guards, [Guard::IsOfRevision(Keys::for_tests().beat(2), 1)]);
+    }
+
+    #[test]
+    fn the_last_one_that_is_known_to_be_full_is_kept() {
+        let mut candidate = Candidate::new(1);
+        candidate.roster.feed(&Line::Join { server: 2 }, []);
+        candidate.roster.members.push(2);
+        candidate.roster.joiner = None;
+        candidate.look(8, &[2], &[1], None);
+        let (decision, why) = candidate.decide();
+        assert_eq!(decision, Decision::Nothing);
+        assert!(why.unwrap().contains("server 1 is silent, and no other member is known to have all"));
+        candidate.condemned.insert(1);
+        assert_eq!(candidate.decide().0, Decision::Spare(1));
+    }
+
+    #[test]
+    fn nobody_is_detected_where_no_other_full_one_beats() {
+        let mut candidate = Candidate::new(2);
+        candidate.look(3, &[1, 2], &[], None);
+        candidate.condemned.insert(1);
+        candidate.now += 3 * HALF;
+        let (decision, why) = candidate.decide();
+        assert_eq!(decision, Decision::Spare(1));
+        assert!(why.unwrap().contains("server 1 is condemned, and no other member that has all"));
+        candidate.look(1, &[1, 2], &[], None);
+        assert_eq!(candidate.line(), Some(Line::Detect { server: 1 }));
+    }
+
+    #[test]
+    fn messages_are_taken_by_their_numbers_and_none_of_a_detected_server() {
+        let mut candidate = Candidate::new(2);
+        let letter = |server, number| Letter { server, number, piece: Bytes::from_static(&[1, 11]) };
+        candidate.letters = vec![letter(2, 2), letter(1, 1)];
+        assert!(matches!(candidate.line(), Some(Line::Take { server: 1, number: 1, .. })));
+        candidate.roster.feed(&Line::Detect { server: 1 }, []);
+        assert_eq!(candidate.line(), None);
+        candidate.letters.push(letter(2, 1));
+        assert!(matches!(candidate.line(), Some(Line::Take { server: 2, number: 1, .. })));
+    }
+
+    #[test]
+    fn a_fresh_server_that_wants_to_joins_and_a_used_number_does_not() {
+        let mut candidate = Candidate::new(1);
+        candidate.look(1, &[1, 2], &[], Some(2));
+        assert_eq!(candidate.line(), None, "it was only found");
+        candidate.look(1, &[1, 2], &[], Some(2));
+        assert_eq!(candidate.line(), Some(Line::Join { server: 2 }));
+        candidate.roster.feed(&Line::Join { server: 2 }, []);
+        assert_eq!(candidate.line(), None);
+        candidate.roster.feed(&Line::Detect { server: 2 }, []);
+        assert_eq!(candidate.line(), None);
+    }
+
+    #[test]
+    fn a_joiner_that_is_silent_is_let_go_whoever_else_is_there() {
+        let mut candidate = Candidate::new(1);
+        candidate.look(2, &[1, 2], &[], Some(2));
+        candidate.roster.feed(&Line::Join { server: 2 }, []);
+        candidate.look(6, &[1], &[2], None);
+        assert_eq!(candidate.line(), Some(Line::Detect { server: 2 }));
+    }
+}

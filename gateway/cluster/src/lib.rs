@@ -22,9 +22,15 @@ mod status;
 mod up;
 mod wire;
 
+use std::io::{self, Write};
 use std::sync::{Mutex, MutexGuard, PoisonError};
 
 /// What a lock protects, also behind a thread that panicked: all that is kept here is whole between two statements.
 fn lock<T>(mutex: &Mutex<T>) -> MutexGuard<'_, T> {
     mutex.lock().unwrap_or_else(PoisonError::into_inner)
+}
+
+/// Writes a line to standard output. Where nobody reads it, all goes on.
+fn say(line: &str) {
+    let _ = writeln!(io::stdout(), "{line}");
 }

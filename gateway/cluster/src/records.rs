@@ -117,6 +117,11 @@ impl Keys {
         Keys { cluster, root: format!("hobbychair/{name}/{incarnation}") }
     }
 
+    #[cfg(test)]
+    pub fn for_tests() -> Keys {
+        Keys::new("tested", "0")
+    }
+
     /// The next number of a server.
     pub fn next(&self) -> String {
         format!("{}/next", self.root)

@@ -12,7 +12,7 @@ use tokio::time::sleep;
 
 use crate::child::end_with_this_process;
 use crate::records::Cluster;
-use crate::status;
+use crate::{say, status};
 
 /// What the cluster is called.
 const NAME: &str = "try";
@@ -61,7 +61,7 @@ pub async fn up(nodes: u32, folder: &Path, program: &str) -> Result<()> {
         processes.push(start(&format!("master-{number}"), &["master"])?);
     }
     let cluster = Cluster::find(NAME, &urls).await?;
-    say(&cluster, nodes, &url, folder).await?;
+    tell_of(&cluster, nodes, &url, folder).await?;
     let mut rounds = tokio::time::interval(Duration::from_millis(500));
     loop {
         tokio::select! {
@@ -74,14 +74,14 @@ pub async fn up(nodes: u32, folder: &Path, program: &str) -> Result<()> {
     while let Some(process) = processes.pop() {
         drop(process);
     }
-    println!("the cluster is down");
+    say("the cluster is down");
     Ok(())
 }
 
 fn goes_on(process: &mut Process) -> bool {
     match process.child.try_wait() {
         Ok(Some(status)) => {
-            println!("{} has ended ({status})", process.name);
+            say(&format!("{} has ended ({status})", process.name));
             false
         }
         _ => true,
@@ -145,21 +145,21 @@ async fn create(urls: &[String], nodes: u32) -> Result<()> {
     }
 }
 
-async fn say(cluster: &Cluster, nodes: u32, url: &str, folder: &Path) -> Result<()> {
+async fn tell_of(cluster: &Cluster, nodes: u32, url: &str, folder: &Path) -> Result<()> {
     let begun = Instant::now();
     loop {
         let status = status::look(cluster).await?;
         if status.beating() >= nodes as usize {
-            print!("{}", status.columns());
+            say(status.columns().trim_end());
             break;
         }
         if begun.elapsed() > NODES {
             bail!("the nodes don't begin: {} has what they say", folder.display());
         }
     }
-    println!("to look at it: hobbychair cluster status --cluster {NAME} --etcd {url}");
-    println!("to add a node: hobbychair node --cluster {NAME} --etcd {url} --listen 127.0.0.1:0 --join");
-    println!("the cluster is up, until this is interrupted");
+    say(&format!("to look at it: hobbychair cluster status --cluster {NAME} --etcd {url}"));
+    say(&format!("to add a node: hobbychair node --cluster {NAME} --etcd {url} --listen 127.0.0.1:0 --join"));
+    say("the cluster is up, until this is interrupted");
     Ok(())
 }
 

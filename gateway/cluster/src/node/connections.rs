@@ -73,6 +73,13 @@ pub struct Outlet {
 }
 
 impl Outlet {
+    /// One whose frames a test reads.
+    #[cfg(test)]
+    pub fn for_tests(wants: std::ops::RangeInclusive<u32>) -> (Outlet, UnboundedReceiver<Bytes>) {
+        let (frames, read) = unbounded_channel();
+        (Outlet { wants, frames, waiting: Arc::default() }, read)
+    }
+
     /// Whether the client is there, and reads.
     pub fn send(&self, frame: &Frame) -> bool {
         let bytes = Bytes::from(frame.bytes());

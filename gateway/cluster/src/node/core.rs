@@ -408,7 +408,10 @@ impl Core {
     fn is_next(&mut self, from: u32, frame: u64) -> bool {
         let Some(peer) = self.peers.get_mut(&from) else { return false };
         if frame != peer.received + 1 {
-            tracing::warn!(from, frame, received = peer.received, "a frame comes out of its turn");
+            tracing::warn!(from, frame, received = peer.received, "a frame comes out of its turn: its connection ends");
+            peer.acknowledging.end();
+            // What comes before the next connection counts no more.
+            peer.connection = 0;
             return false;
         }
         peer.received = frame;

@@ -23,9 +23,9 @@ use crate::child::{Child, Told};
 use crate::clock::{self, Clock};
 use crate::commands::Standing;
 use crate::etcd::{Guard, Operation};
-use crate::lock;
 use crate::records::{self, random_name, Chain, Cluster, Registration};
 use crate::wire::{About, Frame};
+use crate::{lock, say};
 
 use self::connections::{Linked, Outlet};
 use self::core::Core;
@@ -179,7 +179,7 @@ pub async fn run(cluster: Cluster, settings: Settings) -> Result<End> {
         report: Mutex::default(),
         look: Arc::new(Notify::new()),
     });
-    println!("server {id} listens on {address}");
+    say(&format!("server {id} listens on {address}"));
     tracing::info!(server = id, %address, child = child.id(), "a node begins");
     let core = Core::new(node.clone(), child, settings.trace.as_deref())?;
     tokio::spawn(connections::accept(listener, node.clone()));

@@ -188,3 +188,107 @@ impl Streams {
         }
     }
 }
+
+#[cfg(test)]
+mod tests {
+    use super::*;
+    use tokio::sync::mpsc::UnboundedReceiver;
+
+    const HEAD: Standing = Standing { count: 0, acked: 0, last: 0, is_head: true, is_acting: false, is_full: true };
+
+    fn requests(texts: &[&'static str]) -> VecDeque<Work> {
+        texts.iter().map(|text| Work::Request(Bytes::from_static(text.as_bytes()))).collect()
+    }
+
+    fn ask(streams: &mut Streams, client: u64, stream: u64, texts: &[&'static str]) -> oneshot::Receiver<()> {
+        let (done, is_done) = oneshot::channel();
+        streams.ask(client, stream, requests(texts), done);
+        is_done
+    }
+
+    fn next(streams: &mut Streams, standing: &Standing) -> Option<(u64, String)> {
+        streams.next(standing).map(|(client, work)| match work {
+            Work::Request(bytes) | Work::Query(bytes) => (client, String::from_utf8(bytes.to_vec()).unwrap()),
+        })
+    }
+
+    fn told(frames: &mut UnboundedReceiver<Bytes>) -> Vec<Frame> {
+        std::iter::from_fn(|| frames.try_recv().ok()).map(|bytes| Frame::read(bytes.slice(4..)).unwrap()).collect()
+    }
+
+    fn streams(clients: u64) -> (Streams, Vec<UnboundedReceiver<Bytes>>) {
+        let mut streams = Streams::default();
+        let mut all = Vec::new();
+        for client in 1..=clients {
+            let (outlet, frames) = Outlet::for_tests(0..=9);
+            streams.enter(client, outlet);
+            all.push(frames);
+        }
+        (streams, all)
+    }
+
+    #[test]
+    fn a_stream_is_given_one_by_one_and_streams_take_turns() {
+        let (mut streams, _frames) = streams(2);
+        let mut done = ask(&mut streams, 1, 1, &["a", "b"]);
+        ask(&mut streams, 2, 1, &["x"]);
+        assert_eq!(next(&mut streams, &HEAD), Some((1, "a".into())));
+        assert_eq!(next(&mut streams, &HEAD), Some((2, "x".into())));
+        assert_eq!(next(&mut streams, &HEAD), None, "the one before isn't taken yet");
+        streams.answered(1, true, None);
+        assert_eq!(next(&mut streams, &HEAD), Some((1, "b".into())));
+        assert!(done.try_recv().is_err());
+        streams.answered(1, true, None);
+        assert!(done.try_recv().is_ok());
+    }
+
+    #[test]
+    fn nothing_behind_a_refusal_is_given() {
+        let (mut streams, mut frames) = streams(1);
+        ask(&mut streams, 1, 5, &["a", "b"]);
+        next(&mut streams, &HEAD);
+        streams.answered(1, true, Some(20));
+        assert_eq!(told(&mut frames[0]), [Frame::Refused { stream: 5, code: 20 }]);
+        let mut done = ask(&mut streams, 1, 5, &["c"]);
+        assert!(done.try_recv().is_ok());
+        assert_eq!(next(&mut streams, &HEAD), None);
+        ask(&mut streams, 1, 6, &["a"]);
+        assert_eq!(next(&mut streams, &HEAD), Some((1, "a".into())));
+    }
+
+    #[test]
+    fn who_is_no_head_is_given_no_requests() {
+        let (mut streams, mut frames) = streams(1);
+        ask(&mut streams, 1, 1, &["a"]);
+        assert_eq!(next(&mut streams, &Standing { is_head: false, ..HEAD }), None);
+        assert_eq!(told(&mut frames[0]), [Frame::Refused { stream: 1, code: NOT_HEAD }]);
+    }
+
+    #[test]
+    fn requests_wait_at_the_door_while_too_many_are_on_their_way() {
+        let (mut streams, _frames) = streams(1);
+        let standing = Standing { count: MOST_ENTRIES, acked: 0, ..HEAD };
+        streams.stand(&standing);
+        ask(&mut streams, 1, 1, &["a"]);
+        assert_eq!(next(&mut streams, &standing), None);
+        let standing = Standing { acked: 1, ..standing };
+        streams.stand(&standing);
+        assert_eq!(next(&mut streams, &standing), Some((1, "a".into())));
+    }
+
+    #[test]
+    fn answers_go_to_those_who_want_them_and_a_client_that_has_left_holds_nobody_up() {
+        let (mut streams, mut frames) = streams(2);
+        let message = Bytes::from_static(b"m");
+        streams.tell_of(9, &Frame::Answer { message: message.clone() });
+        streams.tell_of(10, &Frame::Answer { message: message.clone() });
+        assert_eq!(told(&mut frames[0]), [Frame::Answer { message }]);
+        ask(&mut streams, 1, 1, &["a"]);
+        ask(&mut streams, 2, 1, &["x"]);
+        streams.leave(1);
+        assert_eq!(next(&mut streams, &HEAD), Some((2, "x".into())));
+        drop(frames.remove(1));
+        streams.tell_of(3, &Frame::Standing { server: 1, is_head: true, is_acting: true });
+        assert_eq!(streams.len(), 0);
+    }
+}

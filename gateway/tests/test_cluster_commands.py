@@ -1,0 +1,115 @@
+"""The commands node, master and cluster, and what they say where they can't begin."""
+
+from __future__ import annotations
+
+import json
+import os
+import signal
+import subprocess
+from pathlib import Path
+
+import pytest
+
+from clusters import NAME, Cluster, Etcd, free_ports, has_etcd, run, wait
+from started import gateway_program, program
+
+pytestmark = pytest.mark.skipif(not has_etcd(), reason="etcd isn't there: Debian's etcd-server has it")
+
+
+@pytest.fixture
+def etcd(tmp_path):
+    one = Etcd(tmp_path)
+    yield one
+    one.end()
+
+
+def refused(*words: str) -> str:
+    done = run(*words)
+    assert done.returncode == 1, done
+    return done.stderr
+
+
+def test_what_needs_a_cluster_ends_where_there_is_none(etcd):
+    which = ["--cluster", "other", "--etcd", etcd.urls[0]]
+    for words in [["node", *which, "--listen", "127.0.0.1:0", "--join"], ["master", *which], ["cluster", "status", *which]]:
+        assert "there is no cluster other: hobbychair cluster create makes one" in refused(*words)
+
+
+def test_addresses_of_other_machines_are_refused(etcd):
+    which = ["--cluster", NAME, "--etcd", etcd.urls[0]]
+    assert run("cluster", "create", *which, "--nodes", "1").returncode == 0
+    assert "isn't on this machine" in refused("node", *which, "--listen", "0.0.0.0:0", "--first", "1")
+    assert "isn't on this machine" in refused("cluster", "status", "--cluster", NAME, "--etcd", "http://10.0.0.1:2379")
+    assert "no member of etcd answers" in refused("cluster", "status", "--cluster", NAME, "--etcd", f"http://127.0.0.1:{free_ports(1)[0]}")
+
+
+def test_a_cluster_is_made_once(etcd):
+    words = ["cluster", "create", "--cluster", NAME, "--etcd", etcd.urls[0], "--nodes"]
+    assert "a chain has 1 to 8 servers" in refused(*words, "9")
+    assert run(*words, "3").returncode == 0
+    assert f"there is a cluster {NAME} already" in refused(*words, "3")
+    assert "is no name of a cluster" in refused("cluster", "create", "--cluster", "a/b", "--etcd", etcd.urls[0], "--nodes", "1")
+
+
+def test_a_number_is_used_once(tmp_path):
+    """All nodes lose power, and are started again by the same lines: they must not be servers that know nothing."""
+    cluster = Cluster(tmp_path)
+    try:
+        for server in (1, 2, 3):
+            cluster.kill(server)
+        which = ["--cluster", NAME, "--etcd", cluster.etcd.urls[0], "--listen", "127.0.0.1:0"]
+        for server in ("1", "2", "3"):
+            said = refused("node", *which, "--first", server)
+            assert f"server {server} was started before" in said and "--join" in said
+        assert "there is no server 4" in refused("node", *which, "--first", "4")
+        # The chain waits, and says why.
+        status = run("cluster", "status", "--cluster", NAME, "--etcd", cluster.etcd.urls[0])
+        assert "the chain waits: server 1 doesn't beat" in status.stdout, status.stdout
+        assert cluster.chain()["members"] == [1, 2, 3]
+    finally:
+        cluster.end()
+
+
+def test_the_status_of_a_cluster(tmp_path):
+    cluster = Cluster(tmp_path)
+    try:
+        words = ["cluster", "status", "--cluster", NAME, "--etcd", cluster.etcd.urls[0]]
+        wait(10, lambda: all(server["beats"] for server in json.loads(run(*words, "--json").stdout)["servers"]), "nobody beats")
+        status = json.loads(run(*words, "--json").stdout)
+        assert [server["role"] for server in status["servers"]] == ["head", "middle", "tail"]
+        assert [server["hears"] for server in status["servers"]] == [[2, 3], [1, 3], [1, 2]]
+        assert all(server["is_full"] for server in status["servers"]) and status["waits"] is None
+        rows = run(*words).stdout.splitlines()
+        assert rows[1].split() == ["server", "address", "role", "count", "lag", "beats", "hears", "full", "acts"]
+        assert rows[2].split()[0:3:2] == ["1", "head"]
+    finally:
+        cluster.end()
+
+
+def test_a_whole_cluster_goes_up_and_down(tmp_path):
+    folder = tmp_path / "up"
+    words = [gateway_program(), "cluster", "up", "--nodes", "2", "--folder", str(folder)]
+    started = subprocess.Popen(words, env={**os.environ, "HOBBYCHAIR_CQ": program()}, stdout=subprocess.PIPE, text=True)
+    said = []
+    for line in started.stdout:
+        said.append(line)
+        if "the cluster is up" in line:
+            break
+    assert "tail" in "".join(said) and started.poll() is None, said
+    children = children_of(started.pid)
+    assert len(children) >= 5
+    started.send_signal(signal.SIGINT)
+    assert started.wait(10) == 0
+    wait(5, lambda: not any(Path(f"/proc/{child}").exists() for child in children), "processes are left")
+    assert (folder / "etcd").is_dir()
+    assert "was used before, and is left as it is" in refused("cluster", "up", "--folder", str(folder))
+    assert (folder / "etcd").is_dir()
+
+
+def children_of(process: int) -> list[int]:
+    """All that it started, and what those started."""
+    found = []
+    for one in Path(f"/proc/{process}/task").glob("*/children"):
+        for child in one.read_text().split():
+            found += [int(child), *children_of(int(child))]
+    return found
