@@ -206,6 +206,8 @@ class Run:
             assert place <= len(entries), f"the list has {len(entries)} entries, and place {place} was acknowledged"
             entry = entries[place - 1][1]
             assert (entry["client"], entry["number"]) == (one.client, one.number), f"place {place} has another request"
+            moment = entries[place - 1][0] / 1000 - users.wall_at_zero
+            assert one.asked - 1 < moment < one.at + 1, f"place {place} has a moment {moment - one.asked:.2f} s behind the request"
         list_answers = replay_of_list(entries)
         for one in users.records:
             answer = list_answers[one.length - 1]

@@ -86,6 +86,8 @@ class Users(threading.Thread):
         self.writers: dict[int, asyncio.StreamWriter] = {}
         self.head, self.stream, self.may_ask = 0, 0, False
         self.ends = False
+        # What the wall clock showed when the other clock was 0: here it isn't set meanwhile.
+        self.wall_at_zero = time.time() - time.monotonic()
         self.fault: BaseException | None = None
         self.start()
 

@@ -156,7 +156,7 @@ mod tests {
                     beat.iter().map(|server| (*server, self.revision)).chain(others.iter().map(|server| (*server, 1)));
                 let with_beat =
                     |(server, revision)| (server, revision, Beat { joins: joins == Some(server), ..Beat::default() });
-                self.silence.look(beats.map(with_beat).collect(), &self.roster, self.now, self.now);
+                self.silence.look(beats.map(with_beat).collect(), &self.roster, self.now);
             }
         }
 
@@ -216,7 +216,7 @@ mod tests {
         let (decision, why) = candidate.decide();
         assert_eq!(decision, Decision::Spare(1));
         assert!(why.unwrap().contains("server 1 is condemned, and no other member that has all"));
-        candidate.look(1, &[1, 2], &[], None);
+        candidate.look(2, &[1, 2], &[], None);
         assert_eq!(candidate.line(), Some(Line::Detect { server: 1 }));
     }
 

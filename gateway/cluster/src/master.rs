@@ -194,7 +194,7 @@ impl Master {
         if is_behind {
             return Ok(true);
         }
-        self.silence.look(round.beats, &self.roster, began, self.begun.elapsed());
+        self.silence.look(round.beats, &self.roster, began);
         let view = View {
             keys: &self.cluster.keys,
             roster: &self.roster,

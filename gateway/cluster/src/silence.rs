@@ -44,10 +44,11 @@ pub struct Silence {
 }
 
 impl Silence {
-    /// Notes a read of all beats, with their revisions, that began and ended at these times.
-    pub fn look(&mut self, beats: Vec<(u32, i64, Beat)>, roster: &Roster, began: Duration, ended: Duration) {
+    /// Notes a read of all beats, with their revisions, that began at this time. What it shows may be as old as that.
+    pub fn look(&mut self, beats: Vec<(u32, i64, Beat)>, roster: &Roster, began: Duration) {
         let gap = self.last.map_or(Duration::ZERO, |last| began.saturating_sub(last));
-        if gap <= BREAK {
+        let was_in_contact = gap <= BREAK;
+        if was_in_contact {
             self.contact += gap;
         }
         self.last = Some(began);
@@ -58,7 +59,8 @@ impl Silence {
             if known.is_some_and(|known| known.revision == revision) {
                 continue;
             }
-            let fresh = known.map(|_| ended);
+            // Of what changed while nobody looked isn't known when.
+            let fresh = known.filter(|_| was_in_contact).map(|_| began);
             self.seen.insert(server, Seen { revision, beat, changed: self.contact, fresh });
         }
         for server in roster.line_of_servers() {
@@ -143,7 +145,7 @@ mod tests {
                 self.beat(servers);
                 self.now += HALF;
                 let beats = self.beats.iter().map(|(server, (revision, beat))| (*server, *revision, beat.clone()));
-                self.silence.look(beats.collect(), &self.roster, self.now, self.now);
+                self.silence.look(beats.collect(), &self.roster, self.now);
             }
         }
 
@@ -198,7 +200,7 @@ mod tests {
         looks.now += Duration::from_secs(6);
         looks.look(1, &[1, 3]);
         assert_eq!(looks.silent(), [0u32; 0]);
-        looks.look(5, &[1, 3]);
+        looks.look(6, &[1, 3]);
         assert_eq!(looks.silent(), [2]);
     }
 
@@ -214,6 +216,17 @@ mod tests {
         looks.beats.entry(2).or_default().1.took = 1;
         looks.look(1, &[1, 2, 3]);
         assert_eq!(looks.silent(), [0u32; 0]);
+    }
+
+    #[test]
+    fn what_changed_while_nobody_looked_is_not_fresh() {
+        let mut looks = Looks::new();
+        looks.look(4, &[1, 2, 3]);
+        looks.now += Duration::from_secs(1);
+        looks.look(1, &[1, 2, 3]);
+        assert_eq!(looks.fresh(), [0u32; 0]);
+        looks.look(1, &[1, 3]);
+        assert_eq!(looks.fresh(), [1, 3]);
     }
 
     #[test]

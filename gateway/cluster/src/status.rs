@@ -64,10 +64,10 @@ pub async fn look(cluster: &Cluster) -> Result<Status> {
     let begun = Instant::now();
     let mut silence = Silence::default();
     let first = read(cluster).await?;
-    silence.look(beats_of(&first), &roster(cluster, &first.chain), begun.elapsed(), begun.elapsed());
+    silence.look(beats_of(&first), &roster(cluster, &first.chain), begun.elapsed());
     sleep(LOOK / 2).await;
     let second = read(cluster).await?;
-    silence.look(beats_of(&second), &roster(cluster, &second.chain), begun.elapsed(), begun.elapsed());
+    silence.look(beats_of(&second), &roster(cluster, &second.chain), begun.elapsed());
     sleep(LOOK / 2).await;
     let last = read(cluster).await?;
     let beating = |server: &u32| {
@@ -75,7 +75,7 @@ pub async fn look(cluster: &Cluster) -> Result<Status> {
         revision(&last).is_some() && revision(&last) != revision(&first)
     };
     let roster = roster(cluster, &last.chain);
-    silence.look(beats_of(&last), &roster, begun.elapsed(), begun.elapsed());
+    silence.look(beats_of(&last), &roster, begun.elapsed());
     let view = View {
         keys: &cluster.keys,
         roster: &roster,
