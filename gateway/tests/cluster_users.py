@@ -75,7 +75,7 @@ class Answered:
 class Users(threading.Thread):
     """Some users, who ask at the head and hear all servers, until they are told to stop."""
 
-    def __init__(self, cluster: Cluster, seed: int, count: int = 8, think: float = 0.01) -> None:
+    def __init__(self, cluster: Cluster, seed: int, count: int = 8, think: float = 0.02) -> None:
         super().__init__(daemon=True)
         self.cluster, self.random, self.count, self.think = cluster, random.Random(seed), count, think
         self.records: list[Answered] = []
@@ -179,8 +179,11 @@ class Users(threading.Thread):
             await asyncio.sleep(0.05)
 
     async def connect(self, server: int) -> None:
+        port = self.cluster.port(server)
+        if port is None:
+            return
         try:
-            reader, writer = await asyncio.open_connection("127.0.0.1", self.cluster.node(server).port)
+            reader, writer = await asyncio.open_connection("127.0.0.1", port)
         except OSError:
             return
         try:

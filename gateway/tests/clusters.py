@@ -209,12 +209,16 @@ class Cluster:
         self.nodes: list[Node] = []
         self.masters: list[subprocess.Popen] = []
         self.last: dict[str, Any] = {}
-        for server in range(1, size + 1):
-            if server not in absent:
-                self.start_node(server)
-        for _ in range(masters):
-            self.start_master()
-        wait(20, lambda: all(node.look() for node in self.nodes), "the nodes don't begin")
+        try:
+            for server in range(1, size + 1):
+                if server not in absent:
+                    self.start_node(server)
+            for _ in range(masters):
+                self.start_master()
+            wait(20, lambda: all(node.look() for node in self.nodes), "the nodes don't begin")
+        except BaseException:
+            self.end()
+            raise
 
     def _start(self, name: str, *words: str) -> tuple[subprocess.Popen, Path]:
         log = self.room / f"{name}.log"
@@ -240,6 +244,9 @@ class Cluster:
 
     def node(self, server: int) -> Node:
         return next(node for node in self.nodes if node.look() and node.server == server)
+
+    def port(self, server: int) -> int | None:
+        return next((node.port for node in self.nodes if node.look() and node.server == server), None)
 
     def chain(self) -> dict[str, Any]:
         """The chain as etcd has it, or as it had it when it last answered."""

@@ -98,7 +98,7 @@ impl Membership {
             settings.first().is_some_and(|found| found.value == records::text(&node.cluster.settings)),
             "the cluster of this name is another one now"
         );
-        let registrations = unknown.into_iter().map(|server| Ok((server, next()?))).collect::<Result<Vec<_>>>()?;
+        let registrations = unknown.iter().map(|server| Ok((*server, next()?))).collect::<Result<Vec<_>>>()?;
         let chain: Chain = records::value(chain.first().context("the cluster has no chain")?)?;
         anyhow::ensure!(
             chain.line >= self.line,
@@ -119,7 +119,9 @@ impl Membership {
         self.chain = Some(chain.clone());
         let detected = detected.iter().filter_map(|entry| last_number(&entry.key)).collect();
         node.tell(Event::Read { detected, chain, orders });
-        Ok(!lock(&node.letters).is_empty() || (outcome.succeeded && !self.unknown().is_empty()))
+        // Of others that were asked for in vain it is asked at the next beat.
+        let is_new = |server: &u32| !unknown.contains(server);
+        Ok(!lock(&node.letters).is_empty() || self.unknown().iter().any(is_new))
     }
 
     /// Servers of the chain, and others to which there are links, whose addresses aren't known.
