@@ -35,16 +35,15 @@ impl Clock {
     /// An entry has this moment.
     pub fn took(&mut self, moment: u64, since_start: u64) {
         self.last = self.last.max(moment);
-        if moment > 0 && self.offset.map_or(true, |offset| sum(since_start, offset) < moment) {
-            self.offset = Some(difference(moment, since_start));
+        if moment > 0 && self.is_behind(moment, since_start) {
+            self.set(moment, since_start);
         }
     }
 
     /// The predecessor says that it is this time.
     pub fn follow(&mut self, time: u64, since_start: u64) {
-        if self.offset.map_or(true, |offset| sum(since_start, offset) < time) {
-            self.offset = Some(difference(time, since_start));
-            self.changed = since_start;
+        if self.is_behind(time, since_start) {
+            self.set(time, since_start);
         } else {
             self.go_towards(time, since_start);
         }
@@ -53,9 +52,7 @@ impl Clock {
     /// Of the head: the wall clock shows this time.
     pub fn lead(&mut self, wall: u64, since_start: u64) {
         if self.offset.is_none() {
-            self.offset = Some(difference(wall, since_start));
-            self.changed = since_start;
-            return;
+            return self.set(wall, since_start);
         }
         let off = wall.abs_diff(self.now(since_start));
         if off > WORTH_SAYING && !self.has_said {
@@ -66,6 +63,15 @@ impl Clock {
         }
         self.has_said = off > WORTH_SAYING;
         self.go_towards(wall, since_start);
+    }
+
+    fn is_behind(&self, time: u64, since_start: u64) -> bool {
+        self.offset.map_or(true, |offset| sum(since_start, offset) < time)
+    }
+
+    fn set(&mut self, time: u64, since_start: u64) {
+        self.offset = Some(difference(time, since_start));
+        self.changed = since_start;
     }
 
     fn go_towards(&mut self, time: u64, since_start: u64) {
@@ -147,6 +153,14 @@ mod tests {
         assert!(clock.now(5_000) >= WALL + 4_900);
         clock.follow(WALL + 5_000, 5_000);
         assert_eq!(clock.now(5_000), WALL + 5_000);
+    }
+
+    #[test]
+    fn time_goes_back_slowly_from_the_first_entry_on() {
+        let mut clock = Clock::default();
+        clock.took(WALL, 1_000_000);
+        clock.follow(WALL - HOUR, 1_001_000);
+        assert_eq!(clock.now(1_001_000), WALL + 1_000 - 10);
     }
 
     #[test]
