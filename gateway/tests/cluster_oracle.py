@@ -280,5 +280,6 @@ def check(cluster: Cluster, users: Users) -> int:
     run = Run(cluster)
     run.check_users(users)
     events = run.check_world()
-    assert not any(node.process.poll() not in (None, 0, -9) for node in cluster.nodes), "a node failed by itself"
+    failed = [node.server for node in cluster.nodes if node.process.poll() not in (None, 0, -9) and not node.may_fail]
+    assert not failed, f"servers {failed} failed by themselves"
     return events

@@ -9,6 +9,7 @@ import shutil
 import signal
 import socket
 import subprocess
+import tempfile
 import threading
 import time
 import urllib.request
@@ -44,6 +45,8 @@ class Etcd:
 
     def __init__(self, room: Path, members: int = 1) -> None:
         self.room = room
+        # Where there is memory for it, other work on the disk holds nothing up.
+        self.data = tempfile.TemporaryDirectory(dir="/dev/shm" if os.access("/dev/shm", os.W_OK) else None)
         ports = free_ports(2 * members)
         self.urls = [f"http://127.0.0.1:{port}" for port in ports[:members]]
         self.peers = [f"http://127.0.0.1:{port}" for port in ports[members:]]
@@ -52,7 +55,7 @@ class Etcd:
 
     def start(self, place: int) -> subprocess.Popen:
         cluster = ",".join(f"m{one}={peer}" for one, peer in enumerate(self.peers))
-        words = ["etcd", "--name", f"m{place}", "--data-dir", str(self.room / f"etcd{place}"),
+        words = ["etcd", "--name", f"m{place}", "--data-dir", f"{self.data.name}/{place}",
                  "--listen-client-urls", self.urls[place], "--advertise-client-urls", self.urls[place],
                  "--listen-peer-urls", self.peers[place], "--initial-advertise-peer-urls", self.peers[place],
                  "--initial-cluster", cluster, "--logger", "zap", "--log-level", "error"]
@@ -95,6 +98,7 @@ class Etcd:
         for process in self.processes:
             process.kill()
             process.wait()
+        self.data.cleanup()
 
 
 def _digits(text: str) -> str:
@@ -169,6 +173,7 @@ class Node:
         self.process, self.log, self.trace, self.proxy = process, log, trace, proxy
         self.server = 0
         self.port = 0
+        self.may_fail = False
 
     def look(self) -> bool:
         """Whether it has said who it is."""

@@ -1,4 +1,4 @@
-"""A chain on several machines: what users are answered while nodes are lost, stopped and joined, and while etcd is away."""
+"""A chain on several machines: what users are answered while nodes are lost and joined."""
 
 from __future__ import annotations
 
@@ -55,6 +55,9 @@ def answered(users: Users, seconds: float = 10) -> float:
 @pytest.mark.parametrize("lost", [1, 2, 3], ids=["head", "middle", "tail"])
 def test_a_server_is_lost(start, lost):
     cluster, users = start()
+    if lost == 1:
+        # One candidate is enough.
+        cluster.masters[0].kill()
     begun = time.monotonic()
     cluster.kill(lost)
     rest = [server for server in (1, 2, 3) if server != lost]
@@ -79,43 +82,15 @@ def test_a_node_joins(start):
     answered(users)
 
 
-def test_a_node_is_stopped_and_goes_on(start):
+def test_a_node_whose_server_ends_ends(start):
     cluster, users = start()
     node = cluster.node(2)
-    node.stop()
+    node.may_fail = True
+    os.kill(node.child(), signal.SIGKILL)
+    wait(5, lambda: not node.lives(), "it goes on without its server")
+    assert node.process.returncode == 1 and "cq server is gone: it ended by signal 9" in node.log.read_text()
     wait(10, cluster.settles([1, 3]), "it isn't detected")
     answered(users)
-    time.sleep(1.5)
-    node.go_on()
-    wait(5, lambda: not node.lives(), "it doesn't end though the log says that it is lost")
-    assert node.process.returncode == 0 and "the master's log says that it is lost" in node.log.read_text()
-
-
-def test_etcd_is_stopped(start):
-    cluster, users = start()
-    begun = time.monotonic()
-    cluster.etcd.signal(signal.SIGSTOP)
-    try:
-        time.sleep(6)
-    finally:
-        cluster.etcd.signal(signal.SIGCONT)
-    assert users.longest_silence(begun) < 2
-    time.sleep(3)
-    assert cluster.settles([1, 2, 3])() and cluster.detected() == []
-    answered(users)
-
-
-def test_all_nodes_are_stopped_at_once(start):
-    cluster, users = start()
-    for node in cluster.nodes:
-        node.stop()
-    time.sleep(5)
-    for node in cluster.nodes:
-        node.go_on()
-        time.sleep(0.2)
-    answered(users)
-    time.sleep(3)
-    assert cluster.detected() == [], "the first one to awake has the others thrown out"
 
 
 def test_a_server_that_is_detected_while_it_lives_ends(start):

@@ -20,6 +20,9 @@ use tokio::time::{sleep, timeout};
 /// A member has so long to answer.
 const PATIENCE: Duration = Duration::from_millis(400);
 
+/// It has so long where a command begins, which tries it once.
+const FIRST_PATIENCE: Duration = Duration::from_secs(3);
+
 /// A watch that says nothing for so long is begun anew, at the next member.
 const QUIET: Duration = Duration::from_secs(5);
 
@@ -78,6 +81,7 @@ pub struct Etcd {
     client: Client<HttpConnector>,
     members: Arc<Vec<String>>,
     at: Arc<AtomicUsize>,
+    patience: Duration,
 }
 
 impl Etcd {
@@ -92,7 +96,12 @@ impl Etcd {
         connector.set_connect_timeout(Some(PATIENCE));
         let at = rand::random::<usize>() % members.len();
         let client = Client::builder().pool_max_idle_per_host(2).build(connector);
-        Ok(Etcd { client, members: Arc::new(members), at: Arc::new(AtomicUsize::new(at)) })
+        Ok(Etcd { client, members: Arc::new(members), at: Arc::new(AtomicUsize::new(at)), patience: FIRST_PATIENCE })
+    }
+
+    /// For who tries again and again: a member that is silent is soon left for another one.
+    pub fn impatient(self) -> Etcd {
+        Etcd { patience: PATIENCE, ..self }
     }
 
     /// What is done if all guards hold, and else.
@@ -111,7 +120,7 @@ impl Etcd {
         let mut why = String::new();
         for _ in 0..self.members.len() {
             let member = self.at.load(Ordering::Relaxed) % self.members.len();
-            match timeout(PATIENCE, self.post(member, "/v3/kv/txn", body.clone())).await {
+            match timeout(self.patience, self.post(member, "/v3/kv/txn", body.clone())).await {
                 Ok(Ok(answer)) => return outcome(&answer).ok_or_else(|| EtcdError::Refused("it is no answer".into())),
                 Ok(Err(EtcdError::Refused(said))) => why = said,
                 Ok(Err(EtcdError::Unreachable(said))) => why = said,

@@ -274,6 +274,11 @@ impl Cluster {
         Ok(Cluster { name: name.into(), etcd, settings, keys })
     }
 
+    /// For who tries again and again.
+    pub fn impatient(self) -> Cluster {
+        Cluster { etcd: self.etcd.impatient(), ..self }
+    }
+
     /// That this cluster is still the one of its name.
     pub fn guard(&self) -> Guard {
         Guard::Is(self.keys.cluster.clone(), text(&self.settings))
