@@ -13,7 +13,7 @@ use std::time::{Duration, Instant};
 
 use thiserror::Error;
 
-use crate::commands::{Response, Responses};
+use crate::commands::Response;
 use crate::lock;
 use crate::parts::{Cutter, FRAME_LIMIT};
 
@@ -137,7 +137,7 @@ fn read_all(mut output: ChildStdout, process: &Mutex<std::process::Child>, mut t
 }
 
 fn read_responses(output: &mut ChildStdout, told: &mut impl FnMut(Told)) -> io::Result<()> {
-    let (mut cutter, mut responses) = (Cutter::default(), Responses::default());
+    let mut cutter = Cutter::default();
     let mut chunk = vec![0; CHUNK];
     loop {
         let count = output.read(&mut chunk)?;
@@ -147,7 +147,7 @@ fn read_responses(output: &mut ChildStdout, told: &mut impl FnMut(Told)) -> io::
         cutter.buffer.extend_from_slice(&chunk[..count]);
         let mut read = Vec::new();
         while let Some(frame) = cutter.next(FRAME_LIMIT).map_err(other)? {
-            read.push(responses.read(frame).map_err(other)?);
+            read.push(Response::read(frame).map_err(other)?);
         }
         if !read.is_empty() {
             told(Told::Responses(read));

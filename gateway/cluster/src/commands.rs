@@ -1,15 +1,11 @@
 //! What `cq server` and `cq master` are told, and what they tell, as bytes (docs/WIRE.md, "Commands, responses and
 //! frames").
 
-use std::collections::HashMap;
 use std::fmt;
 
 use bytes::Bytes;
 
 use crate::parts::{frame, Malformed, Parts, Reader};
-
-/// Whether takes and puts bear the index of the piece in its message.
-const INDEXED: bool = false;
 
 /// There was no memory for the command.
 pub const NO_MEMORY: u32 = 20;
@@ -103,9 +99,7 @@ impl Command {
             Command::Take { from, place, piece } => frame(2, |out| {
                 put_party(out, *from);
                 out.number64(place.number);
-                if INDEXED {
-                    out.number64(place.index);
-                }
+                out.number64(place.index);
                 out.run(piece);
             }),
             Command::Detect(server) => frame(3, |out| out.number32(*server)),
@@ -122,9 +116,7 @@ impl Response {
             Response::Put { to, place, piece } => frame(0, |out| {
                 put_party(out, *to);
                 out.number64(place.number);
-                if INDEXED {
-                    out.number64(place.index);
-                }
+                out.number64(place.index);
                 out.run(piece);
             }),
             Response::Refused(code) => frame(1, |out| out.number32(*code)),
@@ -138,24 +130,15 @@ impl Response {
         }
     }
 
-    /// Whether it ends the answer to a command.
-    pub fn is_last(&self) -> bool {
-        !matches!(self, Response::Put { .. } | Response::Waiting(_))
-    }
-}
-
-/// Reads what a process tells.
-#[derive(Default)]
-pub struct Responses {
-    /// Where the last piece for each party stood.
-    last: HashMap<Party, Place>,
-}
-
-impl Responses {
-    pub fn read(&mut self, bytes: Bytes) -> Result<Response, Malformed> {
+    /// Reads a frame without its length.
+    pub fn read(bytes: Bytes) -> Result<Response, Malformed> {
         let mut reader = Reader::of_frame(bytes)?;
         let response = match reader.byte()? {
-            0 => self.put(&mut reader)?,
+            0 => Response::Put {
+                to: party(&mut reader)?,
+                place: Place { number: reader.number64()?, index: reader.number64()? },
+                piece: reader.run()?,
+            },
             1 => Response::Refused(reader.number32()?),
             2 => Response::Unread(reader.number32()?),
             3 => Response::Waiting(party(&mut reader)?),
@@ -167,20 +150,9 @@ impl Responses {
         Ok(response)
     }
 
-    fn put(&mut self, reader: &mut Reader) -> Result<Response, Malformed> {
-        let to = party(reader)?;
-        let number = reader.number64()?;
-        let index = if INDEXED { reader.number64()? } else { self.next_index(to, number) };
-        let place = Place { number, index };
-        self.last.insert(to, place);
-        Ok(Response::Put { to, place, piece: reader.run()? })
-    }
-
-    fn next_index(&self, to: Party, number: u64) -> u64 {
-        match self.last.get(&to) {
-            Some(last) if last.number == number => last.index + 1,
-            _ => 0,
-        }
+    /// Whether it ends the answer to a command.
+    pub fn is_last(&self) -> bool {
+        !matches!(self, Response::Put { .. } | Response::Waiting(_))
     }
 }
 
@@ -265,7 +237,6 @@ mod tests {
 
     #[test]
     fn a_response_is_read_as_it_was_written() {
-        let mut responses = Responses::default();
         let put = |number: u64, index: u64| Response::Put {
             to: Party::Server(2),
             place: Place { number, index },
@@ -276,14 +247,14 @@ mod tests {
         let others = [Response::Refused(20), Response::Unread(91), Response::Waiting(Party::Clients), Response::Heard];
         for response in puts.into_iter().chain(others).chain([Response::Done(standing)]) {
             let bytes = Bytes::from(response.frame()).slice(4..);
-            assert_eq!(responses.read(bytes), Ok(response));
+            assert_eq!(Response::read(bytes), Ok(response));
         }
     }
 
     #[test]
     fn a_response_that_is_none_is_refused() {
         for bytes in [&[][..], &[1], &[2, 6], &[1, 7], &[1, 6, 0], &[1, 0, 3], &[1, 0, 2, 0, 0, 0, 0]] {
-            assert!(Responses::default().read(Bytes::copy_from_slice(bytes)).is_err(), "{bytes:?}");
+            assert!(Response::read(Bytes::copy_from_slice(bytes)).is_err(), "{bytes:?}");
         }
     }
 }

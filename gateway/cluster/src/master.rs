@@ -5,14 +5,14 @@ use std::collections::BTreeSet;
 use std::sync::Arc;
 use std::time::{Duration, Instant};
 
-use anyhow::{bail, Context, Result};
+use anyhow::{anyhow, bail, Context, Result};
 use bytes::Bytes;
 use tokio::sync::mpsc::{unbounded_channel, UnboundedReceiver};
 use tokio::sync::Notify;
 use tokio::time::{sleep, timeout};
 
 use crate::child::{Child, Told};
-use crate::commands::{Command, Party, Place, Response};
+use crate::commands::{Command, Party, Place, Response, NO_MEMORY};
 use crate::decision::{Decision, Letter, View};
 use crate::etcd::{Entry, EtcdError, Guard, Operation};
 use crate::records::{self, last_number, server_and_number, Beat, Cluster, Line, Piece};
@@ -59,13 +59,13 @@ impl Core {
     async fn begin_anew(&mut self, lines: &[Line]) -> Result<()> {
         *self = Core::start(&self.program, self.servers)?;
         for line in lines {
-            self.feed(line).await?.context("the log has a line that cq master refuses")?;
+            self.feed(line).await?.map_err(refused)?;
         }
         Ok(())
     }
 
-    /// What is put behind a line; nothing if the line is refused.
-    async fn feed(&mut self, line: &Line) -> Result<Option<Vec<Order>>> {
+    /// What is put behind a line, or the number of its refusal.
+    async fn feed(&mut self, line: &Line) -> Result<Result<Vec<Order>, u32>> {
         let (command, gone) = match line {
             Line::Detect { server } => (Command::Detect(*server), Some(*server)),
             Line::Join { server } => (Command::Join(*server), None),
@@ -74,53 +74,64 @@ impl Core {
                 (Command::Take { from: Party::Server(*server), place, piece: piece.clone() }, None)
             }
         };
-        let Some(mut orders) = self.ask(command).await? else { return Ok(None) };
+        let mut orders = match self.ask(command).await? {
+            Ok(orders) => orders,
+            Err(code) => return Ok(Err(code)),
+        };
         if let Some(server) = gone {
-            orders.extend(self.ask(Command::Gone(server)).await?.unwrap_or_default());
+            orders.extend(self.ask(Command::Gone(server)).await?.map_err(refused)?);
         }
-        Ok(Some(orders))
+        Ok(Ok(orders))
     }
 
-    async fn ask(&mut self, command: Command) -> Result<Option<Vec<Order>>> {
+    async fn ask(&mut self, command: Command) -> Result<Result<Vec<Order>, u32>> {
         self.child.give(command.frame());
         let mut orders = Vec::new();
         let mut waits = None;
         loop {
             match self.next(&mut orders, &mut waits).await? {
-                None => return Ok(None),
-                Some(false) => {}
-                Some(true) => match waits.take() {
+                Heard::Refused(code) => return Ok(Err(code)),
+                Heard::Some => {}
+                Heard::All => match waits.take() {
                     Some(party) => self.child.give(Command::More(party).frame()),
-                    None => return Ok(Some(orders)),
+                    None => return Ok(Ok(orders)),
                 },
             }
         }
     }
 
-    /// Hears some responses. Says whether an answer has ended, or nothing where the command was refused.
-    async fn next(&mut self, orders: &mut Vec<Order>, waits: &mut Option<Party>) -> Result<Option<bool>> {
+    async fn next(&mut self, orders: &mut Vec<Order>, waits: &mut Option<Party>) -> Result<Heard> {
         let told = timeout(CHILD_PATIENCE, self.told.recv()).await.context("cq master doesn't answer")?;
         let responses = match told {
             Some(Told::Responses(responses)) => responses,
             Some(Told::Ended(why)) => bail!("cq master is gone: {why}"),
             None => bail!("cq master is gone"),
         };
-        let mut has_ended = false;
+        let mut heard = Heard::Some;
         for response in responses {
             match response {
                 Response::Put { to: Party::Server(server), place, piece } => {
                     orders.push(Order { server, number: place.number, piece });
                 }
                 Response::Waiting(party) => *waits = Some(party),
-                Response::Refused(code) | Response::Unread(code) => {
-                    tracing::debug!(code, "cq master refuses a line");
-                    return Ok(None);
-                }
-                response => has_ended |= response.is_last(),
+                Response::Refused(code) | Response::Unread(code) => heard = Heard::Refused(code),
+                response if response.is_last() => heard = Heard::All,
+                _ => {}
             }
         }
-        Ok(Some(has_ended))
+        Ok(heard)
     }
+}
+
+/// What was heard of an answer.
+enum Heard {
+    Some,
+    All,
+    Refused(u32),
+}
+
+fn refused(code: u32) -> anyhow::Error {
+    anyhow!("cq master refuses a line of the log by {code}")
 }
 
 /// What was read in one round.
@@ -143,6 +154,8 @@ pub struct Master {
     begun: Instant,
     why: Option<String>,
     in_contact: bool,
+    /// Servers whose next message `cq master` can't read.
+    unreadable: BTreeSet<u32>,
 }
 
 /// Runs a candidate until its cluster is another one, or it fails.
@@ -161,6 +174,7 @@ pub async fn run(cluster: Cluster, program: &str) -> Result<()> {
         begun: Instant::now(),
         why: None,
         in_contact: true,
+        unreadable: BTreeSet::new(),
     };
     tracing::info!(cluster = %master.cluster.name, "a candidate for the master begins");
     loop {
@@ -195,13 +209,15 @@ impl Master {
         if is_behind {
             return Ok(true);
         }
+        let mut letters = round.letters;
+        letters.retain(|letter| !self.unreadable.contains(&letter.server));
         self.silence.look(round.beats, &self.roster, began);
         let view = View {
             keys: &self.cluster.keys,
             roster: &self.roster,
             silence: &self.silence,
             now: self.begun.elapsed(),
-            letters: &round.letters,
+            letters: &letters,
             condemned: &round.condemned,
         };
         let (decision, why) = view.decide();
@@ -262,17 +278,17 @@ impl Master {
 
     /// The next line of the log is this one.
     async fn hear(&mut self, line: Line) -> Result<()> {
-        let orders = self.orders_behind(&line).await?.context("the log has a line that cq master refuses")?;
+        let orders = self.orders_behind(&line).await?.map_err(refused)?;
         tracing::info!(line = self.roster.line + 1, "{}", records::text(&line));
         self.roster.feed(&line, orders.iter().map(|order| (order.server, order.number)));
         self.lines.push(line);
         Ok(())
     }
 
-    /// What `cq master` puts behind a line that may become the next one; nothing if it refuses that.
-    async fn orders_behind(&mut self, line: &Line) -> Result<Option<Vec<Order>>> {
+    /// What `cq master` puts behind a line that may become the next one, or the number of its refusal.
+    async fn orders_behind(&mut self, line: &Line) -> Result<Result<Vec<Order>, u32>> {
         match self.open.take() {
-            Some((open, orders)) if open == *line => return Ok(Some(orders)),
+            Some((open, orders)) if open == *line => return Ok(Ok(orders)),
             Some(_) => self.core.begin_anew(&self.lines).await?,
             None => {}
         }
@@ -280,9 +296,15 @@ impl Master {
     }
 
     async fn append(&mut self, line: Line, mut guards: Vec<Guard>, also: Vec<Operation>) -> Result<bool> {
-        let Some(orders) = self.orders_behind(&line).await? else {
-            tracing::warn!("cq master refuses {}", records::text(&line));
-            return Ok(false);
+        let orders = match self.orders_behind(&line).await? {
+            Ok(orders) => orders,
+            Err(code) => {
+                tracing::error!(code, "cq master refuses {}", records::text(&line));
+                if let (Line::Take { server, .. }, true) = (&line, code != NO_MEMORY) {
+                    self.unreadable.insert(*server);
+                }
+                return Ok(false);
+            }
         };
         let mut roster = self.roster.clone();
         roster.feed(&line, orders.iter().map(|order| (order.server, order.number)));

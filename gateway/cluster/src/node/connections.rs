@@ -107,8 +107,12 @@ pub async fn accept(listener: TcpListener, node: Arc<Shared>) {
         let node = node.clone();
         tokio::spawn(async move {
             let from = connection.peer_addr().map_or_else(|_| "nowhere".into(), |address| address.to_string());
-            if let Err(error) = serve(connection, room, &node).await {
-                tracing::warn!(%from, %error, "a connection ends");
+            match serve(connection, room, &node).await {
+                Err(error) if error.kind() == io::ErrorKind::NotConnected => {
+                    tracing::info!(%from, %error, "a connection has to wait");
+                }
+                Err(error) => tracing::warn!(%from, %error, "a connection ends"),
+                Ok(()) => {}
             }
         });
     }
@@ -128,8 +132,14 @@ async fn serve(connection: TcpStream, room: tokio::sync::OwnedSemaphorePermit, n
     let reading = reading.with_limit(FRAME_LIMIT);
     match greeting {
         Frame::Link { about, from, nonce, to, gone } => {
+            let mut writing = writing;
             if let Err(why) = test_link(node, &about, from, &nonce, to) {
                 return turn_away(writing, why).await;
+            }
+            if node.address(from).is_none() {
+                let why = format!("server {from} isn't known here yet");
+                timeout(QUIET, writing.write_all(&Frame::Away { why: why.clone() }.bytes())).await??;
+                return Err(io::Error::new(io::ErrorKind::NotConnected, why));
             }
             link(node, from, gone, reading, writing).await
         }
@@ -157,9 +167,9 @@ fn test_link(node: &Shared, about: &About, from: u32, nonce: &str, to: u32) -> R
         return Err(format!("this is server {}, and not {to}", node.id));
     }
     match lock(&node.registrations).get(&from) {
-        Some(registration) if registration.nonce == nonce => Ok(()),
-        Some(_) => Err(format!("server {from} is another process")),
-        None => Err(format!("server {from} isn't known here yet")),
+        Some(registration) if registration.nonce != nonce => Err(format!("server {from} is another process")),
+        // One that isn't known yet is told to wait.
+        _ => Ok(()),
     }
 }
 
