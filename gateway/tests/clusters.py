@@ -204,8 +204,9 @@ class Node:
 class Cluster:
     """A cluster on this machine."""
 
-    def __init__(self, room: Path, size: int = 3, members: int = 1, masters: int = 2, absent: tuple[int, ...] = ()) -> None:
-        self.room, self.size = room, size
+    def __init__(self, room: Path, size: int = 3, members: int = 1, masters: int = 2, absent: tuple[int, ...] = (),
+                 programs: Callable[[str], str] = lambda name: program()) -> None:
+        self.room, self.size, self.programs = room, size, programs
         self.etcd = Etcd(room, members)
         made = run("cluster", "create", "--cluster", NAME, "--etcd", ",".join(self.etcd.urls), "--nodes", str(size))
         assert made.returncode == 0, made.stderr
@@ -227,9 +228,10 @@ class Cluster:
 
     def _start(self, name: str, *words: str) -> tuple[subprocess.Popen, Path]:
         log = self.room / f"{name}.log"
+        environment = {**os.environ, "HOBBYCHAIR_CQ": self.programs(name)}
         with open(log, "ab") as out:
-            return subprocess.Popen([gateway_program(), *words], env={**os.environ, "HOBBYCHAIR_CQ": program()},
-                                    stdin=subprocess.DEVNULL, stdout=out, stderr=out), log
+            return subprocess.Popen([gateway_program(), *words], env=environment, stdin=subprocess.DEVNULL, stdout=out,
+                                    stderr=out), log
 
     def start_node(self, first: int | None = None) -> Node:
         name = f"node{len(self.nodes) + 1}"

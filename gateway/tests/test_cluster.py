@@ -2,8 +2,12 @@
 
 from __future__ import annotations
 
+import json
 import os
+import random
 import signal
+import socket
+import subprocess
 import time
 from collections.abc import Callable, Iterator
 from pathlib import Path
@@ -11,8 +15,9 @@ from pathlib import Path
 import pytest
 
 from cluster_oracle import check
-from cluster_users import Users
+from cluster_users import QUEUE, Users, batch, greeting, request
 from clusters import Cluster, has_etcd, wait
+from started import TOP, program
 
 SEED = int(os.environ.get("HOBBYCHAIR_TEST_SEED", "1"))
 
@@ -52,6 +57,24 @@ def answered(users: Users, seconds: float = 10) -> float:
     return wait(seconds, lambda: len([one for one in users.records[-30:] if one.asked > now]) > 5, "nobody is answered")
 
 
+def send_large(cluster: Cluster, count: int) -> None:
+    """Sends messages of 250,000 bytes, so that a snapshot has many pieces."""
+    send = {"kind": "send", "queue": QUEUE, "group": "large", "body": "x" * 250_000}
+    before = cluster_count(cluster)
+    with socket.create_connection(("127.0.0.1", cluster.port(1) or 0)) as one:
+        # It wants no answers.
+        one.sendall(greeting(cluster, 2**32 - 1))
+        for number in range(count):
+            one.sendall(batch(1, [request(7000 + number, 1, send | {"dedup": f"large-{number}"})]))
+        wait(20, lambda: cluster_count(cluster) >= before + count, "they aren't taken")
+
+
+def cluster_count(cluster: Cluster) -> int:
+    """How many entries the head has, as its beat says."""
+    beats = cluster.etcd.read(f"{cluster.root}/beat/")
+    return json.loads(beats[f"{cluster.root}/beat/{1:010}"])["count"]
+
+
 @pytest.mark.parametrize("lost", [1, 2, 3], ids=["head", "middle", "tail"])
 def test_a_server_is_lost(start, lost):
     cluster, users = start()
@@ -70,6 +93,7 @@ def test_a_server_is_lost(start, lost):
 
 def test_a_node_joins(start):
     cluster, users = start()
+    send_large(cluster, 60)
     begun = time.monotonic()
     cluster.start_node()
     wait(10, cluster.settles([1, 2, 3, 4]), "it doesn't become a member")
@@ -80,6 +104,30 @@ def test_a_node_joins(start):
         cluster.kill(server)
     wait(15, cluster.settles([4]), "they aren't detected")
     answered(users)
+
+
+def test_servers_are_refused_memory_now_and_then(start, tmp_path):
+    """What was refused is given again, in order."""
+    library = tmp_path / "libfail.so"
+    compiled = subprocess.run(["rustc", "-O", "--crate-type", "cdylib", "-o", library, TOP / "check" / "fail.rs"], capture_output=True)
+    assert compiled.returncode == 0, compiled.stderr
+    generator = random.Random(SEED)
+
+    def refusing(name: str) -> str:
+        # The first allocations are those without which it doesn't begin.
+        script = tmp_path / f"cq-{name}"
+        script.write_text(f"#!/bin/sh\nLD_PRELOAD={library} FAIL=memory:{generator.randint(300, 3000)} exec {program()} \"$@\"\n")
+        script.chmod(0o700)
+        return str(script)
+
+    cluster, users = start(programs=refusing)
+    for server in (4, 5):
+        cluster.start_node()
+        wait(15, cluster.settles(list(range(1, server + 1))), "it doesn't become a member")
+    cluster.kill(1)
+    wait(10, cluster.settles([2, 3, 4, 5]), "it isn't detected")
+    answered(users)
+    assert cluster.said().count("a call fails") > 2
 
 
 def test_a_node_whose_server_ends_ends(start):
