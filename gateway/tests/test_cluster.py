@@ -127,7 +127,7 @@ def test_servers_are_refused_memory_now_and_then(start, tmp_path):
     cluster.kill(1)
     wait(10, cluster.settles([2, 3, 4, 5]), "it isn't detected")
     answered(users)
-    assert cluster.said().count("a call fails") > 2
+    assert sum("a call fails" in log.read_text() for log in tmp_path.glob("node*.log")) > 2
 
 
 def test_a_node_whose_server_ends_ends(start):
