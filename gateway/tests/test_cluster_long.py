@@ -53,6 +53,11 @@ def test_a_member_that_never_begins_is_detected(start):
     cluster, users = start(absent=(2,))
     answered(users)
     assert cluster.detected() == [2]
+    # It knows nothing of what was acknowledged meanwhile.
+    late = cluster.start_node(2)
+    late.may_fail = True
+    wait(5, lambda: not late.lives(), "it begins")
+    assert "the master's log says that it is lost" in late.log.read_text()
 
 
 @long

@@ -202,6 +202,8 @@ impl Core {
         for response in open.responses {
             match response {
                 Response::Put { to, place, piece } => self.put(to, place, piece),
+                // What waits for a server that is gone is thrown away.
+                Response::Waiting(Party::Server(server)) if self.gone.contains(&server) => {}
                 Response::Waiting(party) => drop(self.waiting.entry(party).or_insert(Wait::Now)),
                 _ => {}
             }

@@ -204,10 +204,11 @@ async fn register(cluster: &Cluster, beginning: Beginning, registration: &Regist
     if first == 0 || first > cluster.settings.servers {
         bail!("the first chain has servers 1 to {}: there is no server {first}", cluster.settings.servers);
     }
-    if !put_registration(cluster, first, registration, Vec::new(), Vec::new()).await? {
+    let is_kept = Guard::IsAbsent(cluster.keys.detected(first));
+    if !put_registration(cluster, first, registration, vec![is_kept], Vec::new()).await? {
         bail!(
-            "server {first} was started before, and a number is used once, since what that server knew may be gone: start \
-             this node with --join"
+            "server {first} was started before, or the master's log says that it is lost. A number is used once, since what \
+             that server knew may be gone: start this node with --join"
         );
     }
     Ok(first)
