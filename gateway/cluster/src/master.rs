@@ -87,12 +87,12 @@ impl Core {
     async fn ask(&mut self, command: Command) -> Result<Result<Vec<Order>, u32>> {
         self.child.give(command.frame());
         let mut orders = Vec::new();
-        let mut waits = None;
+        let mut waits = BTreeSet::new();
         loop {
             match self.next(&mut orders, &mut waits).await? {
                 Heard::Refused(code) => return Ok(Err(code)),
                 Heard::Some => {}
-                Heard::All => match waits.take() {
+                Heard::All => match waits.pop_first() {
                     Some(party) => self.child.give(Command::More(party).frame()),
                     None => return Ok(Ok(orders)),
                 },
@@ -100,7 +100,7 @@ impl Core {
         }
     }
 
-    async fn next(&mut self, orders: &mut Vec<Order>, waits: &mut Option<Party>) -> Result<Heard> {
+    async fn next(&mut self, orders: &mut Vec<Order>, waits: &mut BTreeSet<Party>) -> Result<Heard> {
         let told = timeout(CHILD_PATIENCE, self.told.recv()).await.context("cq master doesn't answer")?;
         let responses = match told {
             Some(Told::Responses(responses)) => responses,
@@ -113,7 +113,7 @@ impl Core {
                 Response::Put { to: Party::Server(server), place, piece } => {
                     orders.push(Order { server, number: place.number, piece });
                 }
-                Response::Waiting(party) => *waits = Some(party),
+                Response::Waiting(party) => drop(waits.insert(party)),
                 Response::Refused(code) | Response::Unread(code) => heard = Heard::Refused(code),
                 response if response.is_last() => heard = Heard::All,
                 _ => {}
@@ -303,6 +303,8 @@ impl Master {
                 if let (Line::Take { server, .. }, true) = (&line, code != NO_MEMORY) {
                     self.unreadable.insert(*server);
                 }
+                // It may have happened, and a message behind it found no memory.
+                self.core.begin_anew(&self.lines).await?;
                 return Ok(false);
             }
         };
