@@ -71,6 +71,15 @@ impl Door {
         self.given = self.given.saturating_sub(1);
     }
 
+    /// The first request that was given and not taken is none that is on its way.
+    fn refused(&mut self) {
+        let first = self.sizes.len().checked_sub(self.given as usize);
+        if let Some(size) = first.and_then(|first| self.sizes.remove(first)) {
+            self.bytes -= size;
+        }
+        self.took();
+    }
+
     fn stand(&mut self, standing: &Standing) {
         self.on_their_way = standing.count.saturating_sub(standing.acked);
         while self.sizes.len() as u64 > self.on_their_way + self.given {
@@ -132,7 +141,10 @@ impl Streams {
     /// The server has taken what it was given, or refused it with a number.
     pub fn answered(&mut self, client: u64, was_request: bool, refused: Option<u32>) {
         if was_request {
-            self.door.took();
+            match refused {
+                Some(_) => self.door.refused(),
+                None => self.door.took(),
+            }
         }
         match refused {
             Some(code) => self.refuse(client, code),
@@ -274,6 +286,19 @@ mod tests {
         let standing = Standing { acked: 1, ..standing };
         streams.stand(&standing);
         assert_eq!(next(&mut streams, &standing), Some((1, "a".into())));
+    }
+
+    #[test]
+    fn what_was_refused_is_on_its_way_no_more() {
+        let (mut streams, _frames) = streams(1);
+        for stream in 1..=20 {
+            let (done, _is_done) = oneshot::channel();
+            let large = Bytes::from(vec![b'a'; MOST_BYTES / 16]);
+            streams.ask(1, stream, [Work::Request(large)].into(), done);
+            assert!(next(&mut streams, &HEAD).is_some(), "the one of stream {stream}");
+            streams.answered(1, true, Some(20));
+        }
+        assert!(streams.door.sizes.is_empty() && streams.door.bytes == 0 && streams.door.given == 0);
     }
 
     #[test]
