@@ -31,7 +31,7 @@ pub const TICK: Duration = Duration::from_millis(50);
 /// From whom nothing came for so long isn't heard any more.
 const HEARD: Duration = Duration::from_secs(1);
 
-/// A server that answers nothing for so long doesn't work.
+/// A server that is told something, and tells nothing for so long, doesn't work.
 const STUCK: Duration = Duration::from_secs(5);
 
 /// Between two ticks of a process that wasn't stopped.
@@ -94,6 +94,9 @@ pub struct Core {
     waiting: BTreeMap<Party, Wait>,
     streams: Streams,
     trace: Option<Trace>,
+    /// When the server told something last.
+    told: Instant,
+    is_stuck: bool,
     ticked: Instant,
     end: Option<End>,
 }
@@ -113,6 +116,8 @@ impl Core {
             waiting: BTreeMap::new(),
             streams: Streams::default(),
             trace: trace.map(Trace::begin).transpose()?,
+            told: Instant::now(),
+            is_stuck: false,
             ticked: Instant::now(),
             end: None,
         })
@@ -135,6 +140,7 @@ impl Core {
     fn happen(&mut self, event: Event) {
         match event {
             Event::Told(Told::Responses(responses)) => {
+                self.told = Instant::now();
                 for response in responses {
                     self.hear(response);
                     if self.end.is_some() {
@@ -465,7 +471,7 @@ impl Core {
     fn tick(&mut self) {
         if self.ticked.elapsed() > STOPPED {
             // This process was stopped, and perhaps the server with it.
-            self.open.iter_mut().for_each(|open| open.since = Instant::now());
+            self.told = Instant::now();
         }
         self.ticked = Instant::now();
         self.inboxes.values_mut().for_each(Inbox::begin_again);
@@ -475,7 +481,17 @@ impl Core {
         if self.standing.is_head {
             lock(&self.node.clock).lead(clock::wall(), clock::since_start());
         }
+        self.look_at_server();
         self.report();
+    }
+
+    fn look_at_server(&mut self) {
+        let silent = |open: &Open| open.since.max(self.told).elapsed() > STUCK;
+        let is_stuck = self.open.front().is_some_and(silent);
+        if is_stuck && !self.is_stuck {
+            tracing::error!("cq server doesn't answer: the master is asked to do without it");
+        }
+        self.is_stuck = is_stuck;
     }
 
     fn report(&self) {
@@ -485,7 +501,7 @@ impl Core {
             standing: self.standing,
             hears: self.peers.iter().filter_map(hears).collect(),
             clients: self.streams.len(),
-            is_stuck: self.open.front().is_some_and(|open| open.since.elapsed() > STUCK),
+            is_stuck: self.is_stuck,
         };
     }
 }
