@@ -5,7 +5,7 @@ use std::collections::BTreeSet;
 use std::sync::Arc;
 use std::time::{Duration, Instant};
 
-use anyhow::{anyhow, bail, Context, Result};
+use anyhow::{bail, Context, Result};
 use bytes::Bytes;
 use tokio::sync::mpsc::{unbounded_channel, UnboundedReceiver};
 use tokio::sync::Notify;
@@ -27,6 +27,9 @@ const STEP_BACK: Duration = Duration::from_millis(60);
 
 /// So many lines are read at once.
 const LINES: u32 = 500;
+
+/// So long a candidate waits where `cq master` finds no memory.
+const MEMORY: Duration = Duration::from_millis(100);
 
 /// So long `cq master` may take to answer.
 const CHILD_PATIENCE: Duration = Duration::from_secs(30);
@@ -59,7 +62,9 @@ impl Core {
     async fn begin_anew(&mut self, lines: &[Line]) -> Result<()> {
         *self = Core::start(&self.program, self.servers)?;
         for line in lines {
-            self.feed(line).await?.map_err(refused)?;
+            while let Err(code) = self.feed(line).await? {
+                await_memory(code).await?;
+            }
         }
         Ok(())
     }
@@ -79,23 +84,34 @@ impl Core {
             Err(code) => return Ok(Err(code)),
         };
         if let Some(server) = gone {
-            orders.extend(self.ask(Command::Gone(server)).await?.map_err(refused)?);
+            // The detection has happened: this belongs to it.
+            orders.extend(loop {
+                match self.ask(Command::Gone(server)).await? {
+                    Ok(orders) => break orders,
+                    Err(code) => await_memory(code).await?,
+                }
+            });
         }
         Ok(Ok(orders))
     }
 
+    /// What the command comes to, with all that is put behind it. Where it is refused nothing has happened.
     async fn ask(&mut self, command: Command) -> Result<Result<Vec<Order>, u32>> {
         self.child.give(command.frame());
         let mut orders = Vec::new();
         let mut waits = BTreeSet::new();
+        let mut asked = None;
         loop {
-            match self.next(&mut orders, &mut waits).await? {
-                Heard::Refused(code) => return Ok(Err(code)),
-                Heard::Some => {}
-                Heard::All => match waits.pop_first() {
-                    Some(party) => self.child.give(Command::More(party).frame()),
-                    None => return Ok(Ok(orders)),
-                },
+            match (self.next(&mut orders, &mut waits).await?, asked) {
+                (Heard::Some, _) => continue,
+                (Heard::All, _) => asked = waits.pop_first(),
+                (Heard::Refused(code), None) => return Ok(Err(code)),
+                // The command has happened, and what waits is asked for again.
+                (Heard::Refused(code), Some(_)) => await_memory(code).await?,
+            }
+            match asked {
+                Some(party) => self.child.give(Command::More(party).frame()),
+                None => return Ok(Ok(orders)),
             }
         }
     }
@@ -130,8 +146,14 @@ enum Heard {
     Refused(u32),
 }
 
-fn refused(code: u32) -> anyhow::Error {
-    anyhow!("cq master refuses a line of the log by {code}")
+/// What was refused for want of memory is asked for again after a while; nothing else is.
+async fn await_memory(code: u32) -> Result<()> {
+    if code != NO_MEMORY {
+        bail!("cq master refuses a line of the log by {code}");
+    }
+    tracing::warn!("cq master finds no memory");
+    sleep(MEMORY).await;
+    Ok(())
 }
 
 /// What was read in one round.
@@ -278,7 +300,12 @@ impl Master {
 
     /// The next line of the log is this one.
     async fn hear(&mut self, line: Line) -> Result<()> {
-        let orders = self.orders_behind(&line).await?.map_err(refused)?;
+        let orders = loop {
+            match self.orders_behind(&line).await? {
+                Ok(orders) => break orders,
+                Err(code) => await_memory(code).await?,
+            }
+        };
         tracing::info!(line = self.roster.line + 1, "{}", records::text(&line));
         self.roster.feed(&line, orders.iter().map(|order| (order.server, order.number)));
         self.lines.push(line);
@@ -303,8 +330,6 @@ impl Master {
                 if let (Line::Take { server, .. }, true) = (&line, code != NO_MEMORY) {
                     self.unreadable.insert(*server);
                 }
-                // It may have happened, and a message behind it found no memory.
-                self.core.begin_anew(&self.lines).await?;
                 return Ok(false);
             }
         };
