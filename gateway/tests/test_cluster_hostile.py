@@ -6,6 +6,7 @@ import os
 import random
 import socket
 import struct
+import threading
 import time
 from collections.abc import Iterator
 from pathlib import Path
@@ -131,8 +132,41 @@ def test_a_connection_that_says_nothing_ends_and_too_many_are_turned_away(runnin
     assert time.monotonic() - begun < 8
     for one in held:
         one.close()
-    assert "too many others" in cluster.node(1).log.read_text()
+    assert "gave way to others" in cluster.node(1).log.read_text()
     wait(10, lambda: len(users.records) > answers + 20, "users aren't answered")
+
+
+def test_strangers_who_come_again_and_again_keep_nobody_out(running):
+    cluster, _ = running
+    is_over = threading.Event()
+
+    def come() -> None:
+        held: list[socket.socket] = []
+        while not is_over.is_set():
+            held.append(connect(cluster))
+            # The first ones stay.
+            if len(held) > 90:
+                held.pop(70).close()
+            time.sleep(0.001)
+
+    strangers = threading.Thread(target=come)
+    strangers.start()
+    try:
+        time.sleep(0.5)
+        for _ in range(10):
+            wait(2, lambda: is_greeted(cluster), "who says whom it is about is kept out")
+    finally:
+        is_over.set()
+        strangers.join()
+
+
+def is_greeted(cluster: Cluster) -> bool:
+    with connect(cluster) as one:
+        try:
+            one.sendall(greeting(cluster, 5000, 5000))
+            return read(one)[0] == STANDING
+        except (EOFError, OSError):
+            return False
 
 
 def test_many_connections_of_clients_come_and_go(running):

@@ -1,16 +1,17 @@
 //! Connections that come to a node's port: links of other nodes, clients, and strangers.
 
+use std::collections::BTreeMap;
 use std::io;
 use std::sync::atomic::{AtomicBool, AtomicU64, AtomicUsize, Ordering};
-use std::sync::Arc;
-use std::time::Duration;
+use std::sync::{Arc, Mutex};
+use std::time::{Duration, Instant};
 
 use bytes::Bytes;
 use tokio::io::AsyncWriteExt;
 use tokio::net::tcp::{OwnedReadHalf, OwnedWriteHalf};
 use tokio::net::{TcpListener, TcpStream};
 use tokio::sync::mpsc::{unbounded_channel, UnboundedReceiver, UnboundedSender};
-use tokio::sync::{oneshot, Notify, Semaphore};
+use tokio::sync::{oneshot, Notify};
 use tokio::time::{sleep, timeout};
 
 use crate::lock;
@@ -25,6 +26,9 @@ const GREETING: Duration = Duration::from_secs(5);
 
 /// So many connections may be there that haven't said it yet.
 const MOST_STRANGERS: usize = 64;
+
+/// Between two lines of the log on connections that were turned away.
+const SAYING: Duration = Duration::from_secs(1);
 
 /// A link's connection on which nothing comes for so long is closed.
 const QUIET: Duration = Duration::from_secs(2);
@@ -88,9 +92,65 @@ impl Outlet {
     }
 }
 
+/// The connections that haven't said whom they are about, in the order in which they came.
+#[derive(Default)]
+struct Strangers {
+    waiting: Mutex<BTreeMap<u64, Arc<Notify>>>,
+    turned_away: Mutex<TurnedAway>,
+}
+
+/// How many were turned away that no line of the log tells of.
+#[derive(Default)]
+struct TurnedAway {
+    count: u64,
+    said: Option<Instant>,
+}
+
+/// One of them. It is none any more once this is dropped.
+struct Stranger {
+    all: Arc<Strangers>,
+    number: u64,
+    /// Somebody else gets its place.
+    is_over: Arc<Notify>,
+}
+
+impl Strangers {
+    /// One more comes. Where there are too many the oldest one has to go: whoever means it has said so by then.
+    fn enter(self: &Arc<Strangers>) -> Stranger {
+        let (number, is_over) = (next_connection(), Arc::new(Notify::new()));
+        let mut waiting = lock(&self.waiting);
+        waiting.insert(number, is_over.clone());
+        let oldest = if waiting.len() > MOST_STRANGERS { waiting.pop_first() } else { None };
+        drop(waiting);
+        if let Some((_, oldest)) = oldest {
+            oldest.notify_one();
+            self.count();
+        }
+        Stranger { all: self.clone(), number, is_over }
+    }
+
+    fn count(&self) {
+        let mut turned_away = lock(&self.turned_away);
+        turned_away.count += 1;
+        if turned_away.said.map_or(true, |said| said.elapsed() > SAYING) {
+            tracing::warn!(
+                count = turned_away.count,
+                "connections that didn't say whom they are about gave way to others"
+            );
+            *turned_away = TurnedAway { count: 0, said: Some(Instant::now()) };
+        }
+    }
+}
+
+impl Drop for Stranger {
+    fn drop(&mut self) {
+        lock(&self.all.waiting).remove(&self.number);
+    }
+}
+
 /// Accepts connections for good.
 pub async fn accept(listener: TcpListener, node: Arc<Shared>) {
-    let strangers = Arc::new(Semaphore::new(MOST_STRANGERS));
+    let strangers = Arc::new(Strangers::default());
     loop {
         let connection = match listener.accept().await {
             Ok((connection, _)) => connection,
@@ -100,14 +160,10 @@ pub async fn accept(listener: TcpListener, node: Arc<Shared>) {
                 continue;
             }
         };
-        let Ok(room) = strangers.clone().try_acquire_owned() else {
-            tracing::warn!("a connection is turned away: too many others haven't said whom they are about");
-            continue;
-        };
-        let node = node.clone();
+        let (stranger, node) = (strangers.enter(), node.clone());
         tokio::spawn(async move {
             let from = connection.peer_addr().map_or_else(|_| "nowhere".into(), |address| address.to_string());
-            match serve(connection, room, &node).await {
+            match serve(connection, stranger, &node).await {
                 Err(error) if error.kind() == io::ErrorKind::NotConnected => {
                     tracing::info!(%from, %error, "a connection has to wait");
                 }
@@ -118,17 +174,21 @@ pub async fn accept(listener: TcpListener, node: Arc<Shared>) {
     }
 }
 
-async fn serve(connection: TcpStream, room: tokio::sync::OwnedSemaphorePermit, node: &Arc<Shared>) -> io::Result<()> {
+async fn serve(connection: TcpStream, stranger: Stranger, node: &Arc<Shared>) -> io::Result<()> {
     connection.set_nodelay(true)?;
     let (reading, writing) = connection.into_split();
     let mut reading = Frames::new(reading, GREETING_LIMIT);
-    let greeting = match timeout(GREETING, reading.next()).await? {
+    let greeting = tokio::select! {
+        greeting = timeout(GREETING, reading.next()) => greeting?,
+        () = stranger.is_over.notified() => return Ok(()),
+    };
+    let greeting = match greeting {
         Ok(bytes) => Frame::read(bytes).map_err(|malformed| io::Error::new(io::ErrorKind::InvalidData, malformed))?,
         // Somebody looked whether the port is open.
         Err(error) if error.kind() == io::ErrorKind::UnexpectedEof => return Ok(()),
         Err(error) => return Err(error),
     };
-    drop(room);
+    drop(stranger);
     let reading = reading.with_limit(FRAME_LIMIT);
     match greeting {
         Frame::Link { about, from, nonce, to, gone } => {

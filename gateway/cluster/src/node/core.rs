@@ -87,6 +87,8 @@ pub struct Core {
     standing: Standing,
     chain: Option<Chain>,
     gone: BTreeSet<u32>,
+    /// Servers that the chain let go of while they joined: they never come back.
+    dropped: BTreeSet<u32>,
     links: BTreeMap<u32, Arc<Link>>,
     peers: BTreeMap<u32, Peer>,
     inboxes: BTreeMap<Party, Inbox>,
@@ -110,6 +112,7 @@ impl Core {
             standing: Standing::default(),
             chain: None,
             gone: BTreeSet::new(),
+            dropped: BTreeSet::new(),
             links: BTreeMap::new(),
             peers: BTreeMap::new(),
             inboxes: BTreeMap::new(),
@@ -284,7 +287,7 @@ impl Core {
                 lock(&self.node.letters).push_back((place.number, piece));
                 self.node.look.notify_one();
             }
-            Party::Server(server) if self.gone.contains(&server) => {}
+            Party::Server(server) if self.gone.contains(&server) || self.dropped.contains(&server) => {}
             Party::Server(server) => self.link(server).send_message(place, piece),
         }
     }
@@ -323,6 +326,10 @@ impl Core {
     /// is looked at again.
     fn is_full(&mut self, party: Party) -> bool {
         let Party::Server(server) = party else { return false };
+        if self.dropped.contains(&server) {
+            // What waits for it is thrown away.
+            return false;
+        }
         let link = self.link(server);
         if link.waiting() < MOST_PIECES {
             return false;
@@ -463,7 +470,23 @@ impl Core {
                 }
             }
         }
+        self.let_go(&chain);
         self.chain = Some(chain);
+    }
+
+    /// The links end to servers that are in the chain no more.
+    fn let_go(&mut self, chain: &Chain) {
+        let is_out = |server: &u32| {
+            chain.used.contains(server) && !chain.members.contains(server) && chain.joiner != Some(*server)
+        };
+        for server in self.links.keys().copied().filter(is_out).collect::<Vec<_>>() {
+            tracing::info!(server, "the chain let go of a server that joined");
+            self.dropped.insert(server);
+            lock(&self.node.linked).remove(&server);
+            if let Some(link) = self.links.remove(&server) {
+                link.close();
+            }
+        }
     }
 
     // ---- time
