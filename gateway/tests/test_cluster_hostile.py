@@ -2,6 +2,7 @@
 
 from __future__ import annotations
 
+import contextlib
 import os
 import random
 import socket
@@ -160,8 +161,20 @@ def test_strangers_who_come_again_and_again_keep_nobody_out(running):
         strangers.join()
 
 
-def is_greeted(cluster: Cluster) -> bool:
-    with connect(cluster) as one:
+def test_there_is_room_for_so_many_clients(running):
+    cluster, _ = running
+    with contextlib.ExitStack() as all:
+        kinds = []
+        for _ in range(300):
+            one = all.enter_context(connect(cluster, 2))
+            one.sendall(greeting(cluster, 5000, 5000))
+            kinds.append(read(one)[0])
+        assert kinds.count(AWAY) >= 44 and kinds[:200] == [STANDING] * 200
+    wait(5, lambda: is_greeted(cluster, 2), "those who are gone keep their places")
+
+
+def is_greeted(cluster: Cluster, server: int = 1) -> bool:
+    with connect(cluster, server) as one:
         try:
             one.sendall(greeting(cluster, 5000, 5000))
             return read(one)[0] == STANDING

@@ -27,6 +27,9 @@ const GREETING: Duration = Duration::from_secs(5);
 /// So many connections may be there that haven't said it yet.
 const MOST_STRANGERS: usize = 64;
 
+/// So many clients may be there: what each of them keeps is bounded, and a node has files to spare for links and etcd.
+pub const MOST_CLIENTS: usize = 256;
+
 /// Between two lines of the log on connections that were turned away.
 const SAYING: Duration = Duration::from_secs(1);
 
@@ -203,9 +206,10 @@ async fn serve(connection: TcpStream, stranger: Stranger, node: &Arc<Shared>) ->
             }
             link(node, from, gone, reading, writing).await
         }
-        Frame::Client { about, first, last } => match test_about(node, &about) {
-            Ok(()) => client(node, first..=last, reading, writing).await,
-            Err(why) => turn_away(writing, why).await,
+        Frame::Client { about, first, last } => match (test_about(node, &about), node.clients.try_acquire()) {
+            (Ok(()), Ok(_place)) => client(node, first..=last, reading, writing).await,
+            (Ok(()), Err(_)) => turn_away(writing, format!("{MOST_CLIENTS} clients are there already")).await,
+            (Err(why), _) => turn_away(writing, why).await,
         },
         _ => Err(other("it greets with another frame")),
     }

@@ -17,7 +17,7 @@ use anyhow::{bail, Context, Result};
 use bytes::Bytes;
 use tokio::net::TcpListener;
 use tokio::sync::mpsc::{unbounded_channel, UnboundedSender};
-use tokio::sync::{oneshot, Notify};
+use tokio::sync::{oneshot, Notify, Semaphore};
 
 use crate::child::{Child, Told};
 use crate::clock::{self, Clock};
@@ -118,6 +118,8 @@ pub struct Shared {
     /// Messages for the master that don't stand in etcd yet.
     letters: Mutex<VecDeque<(u64, Bytes)>>,
     report: Mutex<Report>,
+    /// Places for clients.
+    clients: Semaphore,
     /// There may be something to read or to write in etcd.
     look: Arc<Notify>,
 }
@@ -177,6 +179,7 @@ pub async fn run(cluster: Cluster, settings: Settings) -> Result<End> {
         linked: Mutex::default(),
         letters: Mutex::default(),
         report: Mutex::default(),
+        clients: Semaphore::new(connections::MOST_CLIENTS),
         look: Arc::new(Notify::new()),
     });
     say(&format!("server {id} listens on {address}"));
