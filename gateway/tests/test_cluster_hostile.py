@@ -15,8 +15,8 @@ from pathlib import Path
 import pytest
 
 from cluster_oracle import check
-from cluster_users import (AWAY, BATCH, LINK, QUERY, REFUSED, STANDING, Users, about, batch, frame, frames, greeting,
-                           request)
+from cluster_users import (ANSWER, AWAY, BATCH, LINK, QUERY, REFUSED, STANDING, Users, about, batch, frame, frames,
+                           greeting, request)
 from clusters import Cluster, has_etcd, wait
 
 SEED = int(os.environ.get("HOBBYCHAIR_TEST_SEED", "1"))
@@ -173,6 +173,17 @@ def test_there_is_room_for_so_many_clients(running):
     wait(5, lambda: is_greeted(cluster, 2), "those who are gone keep their places")
 
 
+def answered(one: socket.socket, last: int) -> list[int]:
+    """The clients whose answers come, up to that of the last one."""
+    clients: list[int] = []
+    for data in frames.frames(one.makefile("rb")):
+        if data[1] == ANSWER:
+            clients.append(frames.Reader(data[6:]).message()["client"])
+            if clients[-1] == last:
+                break
+    return clients
+
+
 def is_greeted(cluster: Cluster, server: int = 1) -> bool:
     with connect(cluster, server) as one:
         try:
@@ -196,7 +207,8 @@ def test_a_stream_ends_at_its_first_refusal(running):
     cluster, _ = running
     send = {"kind": "send", "queue": "q.fifo", "group": "a", "body": "b"}
     good = [request(6000 + number, 1, send | {"dedup": f"refusals-{number}"}) for number in range(4)]
-    with connect(cluster) as one:
+    with connect(cluster) as one, connect(cluster, 2) as tail:
+        tail.sendall(greeting(cluster, 6000, 6009))
         one.sendall(greeting(cluster, 6000, 6009))
         assert read(one)[0] == STANDING
         # The second request is none: neither it nor the third is taken, and the fourth comes by a stream that has ended.
@@ -204,7 +216,7 @@ def test_a_stream_ends_at_its_first_refusal(running):
         kind, said = read(one)
         assert kind == REFUSED and struct.unpack_from("<Q", said)[0] == 1
         one.sendall(batch(2, [good[3]]))
-        time.sleep(0.5)
+        assert answered(tail, 6003) == [6000, 6003]
     with connect(cluster, 2) as one:
         one.sendall(greeting(cluster, 6000, 6009))
         assert read(one)[0] == STANDING

@@ -196,15 +196,15 @@ async fn serve(connection: TcpStream, stranger: Stranger, node: &Arc<Shared>) ->
     match greeting {
         Frame::Link { about, from, nonce, to, gone } => {
             let mut writing = writing;
-            if let Err(why) = test_link(node, &about, from, &nonce, to) {
-                return turn_away(writing, why).await;
+            match test_link(node, &about, from, &nonce, to) {
+                Ok(true) => link(node, from, gone, reading, writing).await,
+                Ok(false) => {
+                    let why = format!("server {from} isn't known here yet");
+                    timeout(QUIET, writing.write_all(&Frame::Away { why: why.clone() }.bytes())).await??;
+                    Err(io::Error::new(io::ErrorKind::NotConnected, why))
+                }
+                Err(why) => turn_away(writing, why).await,
             }
-            if node.address(from).is_none() {
-                let why = format!("server {from} isn't known here yet");
-                timeout(QUIET, writing.write_all(&Frame::Away { why: why.clone() }.bytes())).await??;
-                return Err(io::Error::new(io::ErrorKind::NotConnected, why));
-            }
-            link(node, from, gone, reading, writing).await
         }
         Frame::Client { about, first, last } => match (test_about(node, &about), node.clients.try_acquire()) {
             (Ok(()), Ok(_place)) => client(node, first..=last, reading, writing).await,
@@ -225,15 +225,15 @@ fn test_about(node: &Shared, about: &About) -> Result<(), String> {
     ))
 }
 
-fn test_link(node: &Shared, about: &About, from: u32, nonce: &str, to: u32) -> Result<(), String> {
+/// Whether the sender of a link is known, or why it is turned away.
+fn test_link(node: &Shared, about: &About, from: u32, nonce: &str, to: u32) -> Result<bool, String> {
     test_about(node, about)?;
     if to != node.id {
         return Err(format!("this is server {}, and not {to}", node.id));
     }
     match lock(&node.registrations).get(&from) {
         Some(registration) if registration.nonce != nonce => Err(format!("server {from} is another process")),
-        // One that isn't known yet is told to wait.
-        _ => Ok(()),
+        registration => Ok(registration.is_some()),
     }
 }
 

@@ -89,6 +89,8 @@ pub struct Core {
     gone: BTreeSet<u32>,
     /// Servers that the chain let go of while they joined: they never come back.
     dropped: BTreeSet<u32>,
+    /// Servers that are gone, of which the server is told at the next tick, since there was no memory.
+    untold: BTreeSet<u32>,
     links: BTreeMap<u32, Arc<Link>>,
     peers: BTreeMap<u32, Peer>,
     inboxes: BTreeMap<Party, Inbox>,
@@ -113,6 +115,7 @@ impl Core {
             chain: None,
             gone: BTreeSet::new(),
             dropped: BTreeSet::new(),
+            untold: BTreeSet::new(),
             links: BTreeMap::new(),
             peers: BTreeMap::new(),
             inboxes: BTreeMap::new(),
@@ -241,8 +244,11 @@ impl Core {
                     self.waiting.insert(to, Wait::Later);
                 }
             }
-            What::Gone(server) if refused.is_some() => self.tell_gone(server),
-            What::Gone(_) => {}
+            What::Gone(server) => match refused {
+                None => {}
+                Some(NO_MEMORY) => drop(self.untold.insert(server)),
+                Some(code) => self.fail(format!("cq server doesn't hear that server {server} is gone, by {code}")),
+            },
         }
     }
 
@@ -498,6 +504,9 @@ impl Core {
         }
         self.ticked = Instant::now();
         self.inboxes.values_mut().for_each(Inbox::begin_again);
+        for server in std::mem::take(&mut self.untold) {
+            self.tell_gone(server);
+        }
         for wait in self.waiting.values_mut().filter(|wait| **wait == Wait::Later) {
             *wait = Wait::Now;
         }

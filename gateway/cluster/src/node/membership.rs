@@ -183,13 +183,15 @@ impl Membership {
     /// The messages of the master that weren't read before, in order.
     fn new_orders(&mut self, found: &[Entry]) -> Result<Vec<(u64, Bytes)>> {
         let mut orders = Vec::new();
+        let mut next = self.next_order;
         for entry in found {
-            if last_number(&entry.key) == Some(self.next_order) {
+            if last_number(&entry.key) == Some(next) {
                 let Piece(piece) = records::value(entry)?;
-                orders.push((self.next_order, piece));
-                self.next_order += 1;
+                orders.push((next, piece));
+                next += 1;
             }
         }
+        self.next_order = next;
         Ok(orders)
     }
 }

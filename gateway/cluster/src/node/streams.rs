@@ -121,7 +121,8 @@ impl Streams {
                 self.turns.pop_front();
                 continue;
             };
-            if matches!(one.work.front(), Some(Work::Request(_))) && !self.door.is_open() {
+            let is_request = matches!(one.work.front(), Some(Work::Request(_)));
+            if is_request && standing.is_head && !self.door.is_open() {
                 return None;
             }
             self.turns.pop_front();
