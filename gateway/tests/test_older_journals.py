@@ -186,7 +186,7 @@ def test_a_start_that_is_cut_off_takes_delayed_messages_over_once(tmp_path, word
         starting = subprocess.Popen(
             command("--port", "0", *delayed.words, *delayed.cq.words(), "--clock-file", str(tmp_path / "clock")),
             stdout=subprocess.PIPE, env=environment())
-        latest = time.monotonic() + 10
+        latest = time.monotonic() + 30
         while delayed.cq.ends() == ends and not select.select([starting.stdout], [], [], 0.01)[0]:
             assert time.monotonic() < latest
         time.sleep(0.1)
