@@ -50,7 +50,7 @@ impl View<'_> {
             return (decision, None);
         }
         let (lost, why) = self.detect();
-        let decision = lost.or_else(|| self.spare()).or_else(|| self.join()).unwrap_or(Decision::Nothing);
+        let decision = lost.or_else(|| self.join()).or_else(|| self.spare()).unwrap_or(Decision::Nothing);
         (decision, why)
     }
 
@@ -109,12 +109,17 @@ impl View<'_> {
         (!is_any_fresh).then_some("no other member that has all that was acknowledged beats")
     }
 
+    /// Whoever is condemned now isn't given up, or isn't in the chain.
     fn spare(&self) -> Option<Decision> {
-        self.roster.line_of_servers().find(|server| self.condemned.contains(server)).map(Decision::Spare)
+        self.condemned.first().copied().map(Decision::Spare)
     }
 
     fn join(&self) -> Option<Decision> {
-        let may_join = |server: &u32| self.roster.may_join(*server) && self.silence.is_fresh(*server, self.now);
+        let may_join = |server: &u32| {
+            self.roster.may_join(*server)
+                && self.silence.is_fresh(*server, self.now)
+                && !self.condemned.contains(server)
+        };
         self.silence.wish_to_join().find(may_join).map(|server| Decision::Append {
             line: Line::Join { server },
             guards: vec![Guard::IsOfRevision(self.keys.beat(server), self.silence.revision(server))],
@@ -243,6 +248,14 @@ mod tests {
         assert_eq!(candidate.line(), None);
         candidate.roster.feed(&Line::Detect { server: 2 }, []);
         assert_eq!(candidate.line(), None);
+    }
+
+    #[test]
+    fn a_server_that_condemned_itself_before_it_could_join_is_spared() {
+        let mut candidate = Candidate::new(1);
+        candidate.look(2, &[1, 2], &[], Some(2));
+        candidate.condemned.insert(2);
+        assert_eq!(candidate.decide().0, Decision::Spare(2));
     }
 
     #[test]

@@ -247,6 +247,7 @@ impl Master {
         match decision {
             Decision::Append { line, guards, also } => self.append(line, guards, also).await,
             Decision::Spare(server) => {
+                tracing::warn!(server, "a server that is condemned isn't given up");
                 let undo = [Operation::delete(&self.cluster.keys.condemned(server))];
                 // Where it isn't undone now it is tried again.
                 let _ = self.cluster.etcd.transact(&[self.cluster.guard()], &undo, &[]).await;

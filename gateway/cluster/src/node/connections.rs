@@ -319,6 +319,10 @@ async fn client(
     node.tell(Event::Left { client });
     match ended {
         Err(error) if error.kind() == io::ErrorKind::InvalidData => Err(error),
+        Err(error) if error.kind() == io::ErrorKind::TimedOut => {
+            tracing::warn!(client, "a client that takes nothing loses its connection");
+            Ok(())
+        }
         ended => {
             tracing::debug!(client, ?ended, "a client is gone");
             Ok(())
