@@ -176,7 +176,35 @@ class Run:
             assert next(rest, None) is None, f"server {party} gave more answers"
         return len(script)
 
+    def check_gone(self) -> None:
+        """Who takes a message was told ahead of it of each server that its sender had been told of when it put it."""
+        at_put: dict[tuple[Any, Any], list[set[int]]] = {}
+        for party, steps in self.steps.items():
+            for step, gone in zip(steps, told_gone(steps)):
+                for to in step.puts:
+                    at_put.setdefault((party, to), []).append(gone)
+        for party, steps in self.steps.items():
+            taken: dict[Any, int] = {}
+            for step, gone in zip(steps, told_gone(steps)):
+                event = step.event
+                if event["op"] == "take" and is_whole(event):
+                    number = taken.get(event["from"], 0)
+                    taken[event["from"]] = number + 1
+                    late = at_put[event["from"], party][number] - gone
+                    assert not late, f"{party} took a message of {event['from']} and wasn't told that {late} is gone"
+
     # ---- users
+
+    def check_heard(self, users: Users) -> None:
+        """What users heard of a server is what it put, each answer once and in order, and none is left out between."""
+        def which(message: dict[str, Any]) -> tuple[Any, ...]:
+            return tuple(message.get(key) for key in ("client", "number", "length", "query"))
+
+        for server, steps in self.steps.items():
+            put = [which(told["message"]) for step in steps for told in step.told if told["op"] == "put" and told["to"] == "clients"]
+            heard = [which(message) for one, message in users.heard if one == server]
+            begin = put.index(heard[0]) if heard else 0
+            assert heard == put[begin : begin + len(heard)], f"users heard other answers of server {server} than it put"
 
     def check_users(self, users: Users) -> None:
         """Each acknowledged request has one place in the list, behind all that was acknowledged before it was asked, and its
@@ -217,6 +245,15 @@ class Run:
                 answer = list_answers[message["length"] - 1] if message["length"] <= len(list_answers) else None
                 told = {key: message[key] for key in ("client", "number", "length", "reply")}
                 assert told == answer, f"server {server} gave another answer than the list's: {told}"
+
+
+def told_gone(steps: list[Step]) -> list[set[int]]:
+    """Of which lost servers a party was told by each of its steps."""
+    gone: list[set[int]] = [set()]
+    for step in steps:
+        new = {step.event["server"]} if step.event["op"] in ("gone", "detect") else set()
+        gone.append(gone[-1] | new if new else gone[-1])
+    return gone[1:]
 
 
 def is_event(event: dict[str, Any]) -> bool:
@@ -277,8 +314,12 @@ def check(cluster: Cluster, users: Users) -> int:
     for node in cluster.nodes:
         if node.lives():
             node.stop()
+    written_again = cluster.etcd.rewritten(f"{cluster.root}/master/log/")
+    assert not written_again, f"a line was appended where one was already: {written_again}"
     run = Run(cluster)
     run.check_users(users)
+    run.check_heard(users)
+    run.check_gone()
     events = run.check_world()
     failed = [node.server for node in cluster.nodes if node.process.poll() not in (None, 0, -9) and not node.may_fail]
     assert not failed, f"servers {failed} failed by themselves"

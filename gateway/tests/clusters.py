@@ -81,10 +81,16 @@ class Etcd:
         except ConnectionError:
             return False
 
-    def read(self, prefix: str) -> dict[str, str]:
+    def range(self, prefix: str) -> list[dict[str, str]]:
         last = prefix[:-1] + chr(ord(prefix[-1]) + 1)
-        answer = self.ask("/v3/kv/range", {"key": _digits(prefix), "range_end": _digits(last)})
-        return {_text(found["key"]): _text(found.get("value", "")) for found in answer.get("kvs", [])}
+        return self.ask("/v3/kv/range", {"key": _digits(prefix), "range_end": _digits(last)}).get("kvs", [])
+
+    def read(self, prefix: str) -> dict[str, str]:
+        return {_text(found["key"]): _text(found.get("value", "")) for found in self.range(prefix)}
+
+    def rewritten(self, prefix: str) -> list[str]:
+        """The keys that were written more than once."""
+        return [_text(found["key"]) for found in self.range(prefix) if int(found["version"]) > 1]
 
     def write(self, key: str, value: str) -> None:
         self.ask("/v3/kv/put", {"key": _digits(key), "value": _digits(value)})
@@ -205,7 +211,8 @@ class Cluster:
     """A cluster on this machine."""
 
     def __init__(self, room: Path, size: int = 3, members: int = 1, masters: int = 2, absent: tuple[int, ...] = (),
-                 programs: Callable[[str], str] = lambda name: program()) -> None:
+                 programs: Callable[[str], str] = lambda name: program(), breakable: bool = False) -> None:
+        self.between: list[Proxy] = []
         self.room, self.size, self.programs = room, size, programs
         self.etcd = Etcd(room, members)
         made = run("cluster", "create", "--cluster", NAME, "--etcd", ",".join(self.etcd.urls), "--nodes", str(size))
@@ -216,9 +223,12 @@ class Cluster:
         self.masters: list[subprocess.Popen] = []
         self.last: dict[str, Any] = {}
         try:
-            for server in range(1, size + 1):
+            # The last one first, so that each finds the ways to those behind it as they stand in etcd by then.
+            for server in range(size, 0, -1) if breakable else range(1, size + 1):
                 if server not in absent:
-                    self.start_node(server)
+                    node = self.start_node(server)
+                    if breakable:
+                        self.put_between(node)
             for _ in range(masters):
                 self.start_master()
             wait(20, lambda: all(node.look() for node in self.nodes), "the nodes don't begin")
@@ -244,6 +254,16 @@ class Cluster:
         node = Node(process, log, trace, proxy)
         self.nodes.append(node)
         return node
+
+    def put_between(self, node: Node) -> None:
+        """From now on others find a proxy where the node is registered: their links to it can be broken."""
+        wait(20, node.look, "the node doesn't begin")
+        key = f"{self.root}/node/{node.server:010}"
+        registration = json.loads(self.etcd.read(key)[key])
+        proxy = Proxy(f"http://127.0.0.1:{node.port}")
+        self.between.append(proxy)
+        registration["address"] = proxy.url.removeprefix("http://")
+        self.etcd.write(key, json.dumps(registration, separators=(",", ":")))
 
     def start_master(self) -> None:
         process, _ = self._start(f"master{len(self.masters) + 1}", "master", "--cluster", NAME, "--etcd", ",".join(self.etcd.urls))
@@ -305,6 +325,8 @@ class Cluster:
         for node in self.nodes:
             if node.proxy:
                 node.proxy.end()
+        for proxy in self.between:
+            proxy.end()
         self.etcd.end()
 
 

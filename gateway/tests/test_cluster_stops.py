@@ -50,3 +50,34 @@ def test_all_nodes_are_stopped_at_once(start):
     answered(users)
     time.sleep(3)
     assert cluster.detected() == [], "the first one to awake has the others thrown out"
+
+
+def test_links_break_again_and_again(start):
+    """Each goes on behind the last frame that has come, whatever was on its way."""
+    cluster, users = start(breakable=True)
+    before = len(users.records)
+    for _ in range(30):
+        for proxy in cluster.between:
+            proxy.cut()
+            proxy.mend()
+        time.sleep(0.15)
+    answered(users)
+    assert len(users.records) > before + 100 and cluster.detected() == []
+    logs = "".join(node.log.read_text() for node in cluster.nodes)
+    assert logs.count("a link is up") > 40
+
+
+def test_who_does_not_reach_etcd_hears_of_a_loss_by_a_link_ahead_of_what_follows(start):
+    cluster, users = start()
+    cluster.kill(2)
+    time.sleep(1.4)
+    proxy = cluster.node(3).proxy
+    proxy.cut()
+    try:
+        wait(5, lambda: cluster.detected() == [2], "it isn't detected")
+        time.sleep(0.4)
+        assert "a server is gone server=2" in cluster.node(3).log.read_text(), "no link tells it"
+    finally:
+        proxy.mend()
+    wait(10, cluster.settles([1, 3]), "the chain doesn't go on")
+    answered(users)
