@@ -91,6 +91,8 @@ pub struct Core {
     dropped: BTreeSet<u32>,
     /// Servers that are gone, of which the server is told at the next tick, since there was no memory.
     untold: BTreeSet<u32>,
+    /// So many servers are gone of which the server is told, and hasn't answered.
+    telling: usize,
     links: BTreeMap<u32, Arc<Link>>,
     peers: BTreeMap<u32, Peer>,
     inboxes: BTreeMap<Party, Inbox>,
@@ -116,6 +118,7 @@ impl Core {
             gone: BTreeSet::new(),
             dropped: BTreeSet::new(),
             untold: BTreeSet::new(),
+            telling: 0,
             links: BTreeMap::new(),
             peers: BTreeMap::new(),
             inboxes: BTreeMap::new(),
@@ -244,11 +247,14 @@ impl Core {
                     self.waiting.insert(to, Wait::Later);
                 }
             }
-            What::Gone(server) => match refused {
-                None => {}
-                Some(NO_MEMORY) => drop(self.untold.insert(server)),
-                Some(code) => self.fail(format!("cq server doesn't hear that server {server} is gone, by {code}")),
-            },
+            What::Gone(server) => {
+                self.telling -= 1;
+                match refused {
+                    None => {}
+                    Some(NO_MEMORY) => drop(self.untold.insert(server)),
+                    Some(code) => self.fail(format!("cq server doesn't hear that server {server} is gone, by {code}")),
+                }
+            }
         }
     }
 
@@ -298,8 +304,12 @@ impl Core {
         }
     }
 
-    /// Gives the server what may be given.
+    /// Gives the server what may be given: nothing before it has heard of all that are gone, since what comes behind may
+    /// be of servers that have.
     fn go_on(&mut self) {
+        if self.telling > 0 || !self.untold.is_empty() {
+            return;
+        }
         let parties: Vec<Party> = self.inboxes.keys().copied().collect();
         for from in parties {
             while let Some((place, command)) = self.inboxes.get_mut(&from).and_then(Inbox::next) {
@@ -379,6 +389,7 @@ impl Core {
     }
 
     fn tell_gone(&mut self, server: u32) {
+        self.telling += 1;
         self.give(What::Gone(server), &Command::Gone(server));
     }
 
