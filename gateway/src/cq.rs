@@ -1,11 +1,11 @@
 //! The process `cq session`.
 
-use std::io;
 use std::os::unix::process::CommandExt;
 use std::path::PathBuf;
 use std::process::Stdio;
 use std::time::Duration;
 
+use hobbychair_cluster::end_with_this_process;
 use thiserror::Error;
 use tokio::io::AsyncReadExt;
 use tokio::process::{Child, ChildStderr, Command};
@@ -85,7 +85,8 @@ impl Cq {
         let mut command = std::process::Command::new(program);
         command.arg("session").stdin(Stdio::piped()).stdout(Stdio::piped()).process_group(0);
         told(&mut command);
-        end_with_the_gateway(&mut command);
+        // It is started by threads that are there until the gateway ends.
+        end_with_this_process(&mut command);
         let mut process =
             Command::from(command).kill_on_drop(true).spawn().map_err(|error| not_started(error.to_string()))?;
         let pipes = process.stdin.take().zip(process.stdout.take());
@@ -151,23 +152,6 @@ impl Drop for Cq {
     }
 }
 
-/// The program is ended when the gateway ends, in whatever way. The system does that when the thread ends that starts
-/// the program: such threads are there until the gateway ends.
-fn end_with_the_gateway(command: &mut std::process::Command) {
-    let gateway = std::process::id();
-    let set = move || {
-        // SAFETY: neither call touches memory of this process.
-        let (is_set, parent) = unsafe { (libc::prctl(libc::PR_SET_PDEATHSIG, libc::SIGKILL), libc::getppid()) };
-        match is_set {
-            0 if u32::try_from(parent) == Ok(gateway) => Ok(()),
-            0 => Err(io::ErrorKind::BrokenPipe.into()),
-            _ => Err(io::Error::last_os_error()),
-        }
-    };
-    // SAFETY: what runs between fork and exec takes no locks and no memory.
-    unsafe { command.pre_exec(set) };
-}
-
 fn said(status: std::process::ExitStatus) -> String {
     use std::os::unix::process::ExitStatusExt;
     match (status.code(), status.signal()) {
@@ -222,6 +206,8 @@ fn is_version(program: &str, said: &str) -> Result<(), CqError> {
 
 #[cfg(test)]
 mod tests {
+    use std::io;
+
     use super::*;
 
     fn script(text: &str) -> std::path::PathBuf {

@@ -181,7 +181,8 @@ fn said(status: ExitStatus) -> String {
     }
 }
 
-/// The child is ended when this process ends, in whatever way.
+/// The child is ended when this process ends, in whatever way. The system does that when the thread ends that starts the
+/// child: it has to be one that is there until then.
 pub fn end_with_this_process(command: &mut Command) {
     let this = std::process::id();
     let set = move || {

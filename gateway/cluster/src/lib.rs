@@ -22,6 +22,8 @@ mod status;
 mod up;
 mod wire;
 
+pub use child::end_with_this_process;
+
 use std::io::{self, Write};
 use std::sync::{Mutex, MutexGuard, PoisonError};
 
