@@ -37,10 +37,11 @@ fn put_frame(out: &mut Vec<u8>, write: impl FnOnce(&mut Vec<u8>)) {
     out[start..start + 4].copy_from_slice(&length.to_le_bytes());
 }
 
-/// The client's next request: the first one of the first client makes the queue.
+/// The client's next request, as an arrival of stream 1, as all are: the first one of the first client makes the queue.
 fn put_request(out: &mut Vec<u8>, client: u32, number: u64) {
     put_frame(out, |out| {
         out.extend([1, 0]);
+        out.extend(1u64.to_le_bytes());
         out.extend((1_000 + number).to_le_bytes());
         out.extend(client.to_le_bytes());
         out.extend(number.to_le_bytes());

@@ -50,6 +50,7 @@ fn passing(alloc: Global, draws: &mut Draws) -> io::Result<Command> {
 pub fn command(alloc: Global, draws: &mut Draws) -> io::Result<Command> {
     Ok(match draws.below(7) {
         0 => Command::Arrive {
+            stream: draws.number(),
             clock: moment(draws)?,
             request: request(alloc, draws)?,
         },
@@ -129,8 +130,12 @@ fn add_piece(text: &mut String, piece: &Piece) -> io::Result<()> {
 /// Adds the words of a command.
 pub fn add_command(text: &mut String, command: &Command) -> io::Result<()> {
     match command {
-        Command::Arrive { clock, request } => {
-            write!(text, " arrive {}", clock.get())?;
+        Command::Arrive {
+            stream,
+            clock,
+            request,
+        } => {
+            write!(text, " arrive {stream} {}", clock.get())?;
             add_request(text, request)
         }
         Command::Ask { query } => {

@@ -1,7 +1,7 @@
 -- Answering goes on from frame to frame, and from one read to the next, or comes to a fault.
 use Rattle.std.proofs.Common.{◌≡◌, ℕ, ◌-◌, List, [], ◌∷◌, ◌++◌, length, drop, Option, Err, refl, sym, ap, ◌∙◌, append_assoc, append-nil}
 use Rattle.cq_frame_loop.specs.Cutting.{frames_behind}
-use Rattle.cq_frame_loop.specs.Chains.{Relation, AnswersFront, frames_in, text_in}
+use Rattle.cq_frame_loop.specs.Chains.{Relation, Breaks, AnswersFront, frames_in, text_in}
 use Rattle.cq_frame_loop.specs.within.Advances.{Advances, BeginsWith, FailsAt, FailsIn, StopsAt}
 use Rattle.cq_frame_loop.specs.within.Writes.{IsWriteFault, Passes}
 use Rattle.cq_frame_loop.specs.declared.fault.LoopFault.{LoopFault}
@@ -81,35 +81,38 @@ module _ {S : Type 0} (answers : Relation S) where
       }
 
   -- a frame comes to a fault
-  pub fails_at_frame : (fault : LoopFault) (s m : S) (count size : ℕ) (bytes output unsaid rest more : List ℕ) (frame : Option (List ℕ)) → Advances answers s count bytes (output ++ unsaid) m 0 rest
-      → BeginsWith rest frame size → FailsAt answers fault m frame unsaid more → FailsIn answers fault s (frames_behind count bytes) (output ++ more)
-  fails_at_frame NoMemory s m count size bytes output unsaid rest more frame before begins fails = absurd fails
-  fails_at_frame ReadFailed s m count size bytes output unsaid rest more frame before begins fails = absurd fails
-  fails_at_frame WriteFailed s m count size bytes output unsaid rest more frame before begins fails = stops_at_frame s m count size bytes output unsaid rest more frame before begins fails
-  fails_at_frame Unanswered s m count size bytes output unsaid rest more frame before begins fails = record {
-    steps = before.steps;
-    last = m;
-    chain = before.chain;
-    unanswered = frame;
-    later = frames_behind size rest;
-    front = cut_now s m count 0 bytes _ rest before ∙ ap (λ fs. frames_in before.steps ++ fs) (begins_now rest frame size begins);
-    whole = ap (λ xs. output ++ xs) fails ∙ before.whole;
-  }
-  fails_at_frame Interrupted s m count size bytes output unsaid rest more frame before begins fails = stops_at_frame s m count size bytes output unsaid rest more frame before begins fails
-  fails_at_frame TooManyBytes s m count size bytes output unsaid rest more frame before begins fails = absurd fails
+  pub fails_at_frame : (breaks : Breaks S) (fault : LoopFault) (s m end : S) (count size : ℕ) (bytes output unsaid rest more : List ℕ) (frame : Option (List ℕ)) → Advances answers s count bytes (output ++ unsaid) m 0 rest
+      → BeginsWith rest frame size → FailsAt answers breaks fault m frame unsaid more end → FailsIn answers breaks fault s (frames_behind count bytes) (output ++ more) end
+  fails_at_frame breaks NoMemory s m end count size bytes output unsaid rest more frame before begins fails = absurd fails
+  fails_at_frame breaks ReadFailed s m end count size bytes output unsaid rest more frame before begins fails = absurd fails
+  fails_at_frame breaks WriteFailed s m end count size bytes output unsaid rest more frame before begins fails = stops_at_frame s m count size bytes output unsaid rest more frame before begins fails
+  fails_at_frame breaks Unanswered s m end count size bytes output unsaid rest more frame before begins fails = (
+    record {
+      steps = before.steps;
+      last = m;
+      chain = before.chain;
+      unanswered = frame;
+      later = frames_behind size rest;
+      front = cut_now s m count 0 bytes _ rest before ∙ ap (λ fs. frames_in before.steps ++ fs) (begins_now rest frame size begins);
+      whole = ap (λ xs. output ++ xs) fails.0 ∙ before.whole;
+    },
+    fails.1,
+  )
+  fails_at_frame breaks Interrupted s m end count size bytes output unsaid rest more frame before begins fails = stops_at_frame s m count size bytes output unsaid rest more frame before begins fails
+  fails_at_frame breaks TooManyBytes s m end count size bytes output unsaid rest more frame before begins fails = absurd fails
 
-  front_by : (fault : LoopFault) (s : S) (frames : List (Option (List ℕ))) (output : List ℕ) → IsWriteFault fault → AnswersFront answers s frames output → FailsIn answers fault s frames output
-  front_by NoMemory s frames output kind front = absurd kind
-  front_by ReadFailed s frames output kind front = absurd kind
-  front_by WriteFailed s frames output kind front = front
-  front_by Unanswered s frames output kind front = absurd kind
-  front_by Interrupted s frames output kind front = front
-  front_by TooManyBytes s frames output kind front = absurd kind
+  front_by : (breaks : Breaks S) (fault : LoopFault) (s end : S) (frames : List (Option (List ℕ))) (output : List ℕ) → IsWriteFault fault → AnswersFront answers s frames output → FailsIn answers breaks fault s frames output end
+  front_by breaks NoMemory s end frames output kind front = absurd kind
+  front_by breaks ReadFailed s end frames output kind front = absurd kind
+  front_by breaks WriteFailed s end frames output kind front = front
+  front_by breaks Unanswered s end frames output kind front = absurd kind
+  front_by breaks Interrupted s end frames output kind front = front
+  front_by breaks TooManyBytes s end frames output kind front = absurd kind
 
   -- at the writing of what was told
-  pub fails_at_writing : (fault : LoopFault) (s m : S) (count later : ℕ) (bytes output unsaid rest more left : List ℕ) → Advances answers s count bytes (output ++ unsaid) m later rest
-      → Passes (Err fault) unsaid more left → FailsIn answers fault s (frames_behind count bytes) (output ++ more)
-  fails_at_writing fault s m count later bytes output unsaid rest more left before fails = front_by fault s (frames_behind count bytes) (output ++ more) fails.0 (record {
+  pub fails_at_writing : (breaks : Breaks S) (fault : LoopFault) (s m end : S) (count later : ℕ) (bytes output unsaid rest more left : List ℕ) → Advances answers s count bytes (output ++ unsaid) m later rest
+      → Passes (Err fault) unsaid more left → FailsIn answers breaks fault s (frames_behind count bytes) (output ++ more) end
+  fails_at_writing breaks fault s m end count later bytes output unsaid rest more left before fails = front_by breaks fault s end (frames_behind count bytes) (output ++ more) fails.0 (record {
     steps = before.steps;
     last = m;
     chain = before.chain;
@@ -128,19 +131,22 @@ module _ {S : Type 0} (answers : Relation S) where
   }
 
   -- in the rest
-  pub fails_behind : (fault : LoopFault) (s m : S) (count later : ℕ) (bytes output rest more : List ℕ) → Advances answers s count bytes output m later rest
-      → FailsIn answers fault m (frames_behind later rest) more → FailsIn answers fault s (frames_behind count bytes) (output ++ more)
-  fails_behind NoMemory s m count later bytes output rest more before fails = absurd fails
-  fails_behind ReadFailed s m count later bytes output rest more before fails = absurd fails
-  fails_behind WriteFailed s m count later bytes output rest more before fails = front_behind s m count later bytes output rest more before fails
-  fails_behind Unanswered s m count later bytes output rest more before fails = record {
-    steps = before.steps ++ fails.steps;
-    last = fails.last;
-    chain = chain-append answers s m fails.last before.steps fails.steps before.chain fails.chain;
-    unanswered = fails.unanswered;
-    later = fails.later;
-    front = frames-behind before.steps fails.steps _ _ _ (cut_now s m count later bytes output rest before) fails.front;
-    whole = ap (λ xs. xs ++ more) before.whole ∙ ap (λ xs. text_in before.steps ++ xs) fails.whole ∙ sym (text_in-append before.steps fails.steps);
-  }
-  fails_behind Interrupted s m count later bytes output rest more before fails = front_behind s m count later bytes output rest more before fails
-  fails_behind TooManyBytes s m count later bytes output rest more before fails = absurd fails
+  pub fails_behind : (breaks : Breaks S) (fault : LoopFault) (s m end : S) (count later : ℕ) (bytes output rest more : List ℕ) → Advances answers s count bytes output m later rest
+      → FailsIn answers breaks fault m (frames_behind later rest) more end → FailsIn answers breaks fault s (frames_behind count bytes) (output ++ more) end
+  fails_behind breaks NoMemory s m end count later bytes output rest more before fails = absurd fails
+  fails_behind breaks ReadFailed s m end count later bytes output rest more before fails = absurd fails
+  fails_behind breaks WriteFailed s m end count later bytes output rest more before fails = front_behind s m count later bytes output rest more before fails
+  fails_behind breaks Unanswered s m end count later bytes output rest more before (off, broke) = (
+    record {
+      steps = before.steps ++ off.steps;
+      last = off.last;
+      chain = chain-append answers s m off.last before.steps off.steps before.chain off.chain;
+      unanswered = off.unanswered;
+      later = off.later;
+      front = frames-behind before.steps off.steps _ _ _ (cut_now s m count later bytes output rest before) off.front;
+      whole = ap (λ xs. xs ++ more) before.whole ∙ ap (λ xs. text_in before.steps ++ xs) off.whole ∙ sym (text_in-append before.steps off.steps);
+    },
+    broke,
+  )
+  fails_behind breaks Interrupted s m end count later bytes output rest more before fails = front_behind s m count later bytes output rest more before fails
+  fails_behind breaks TooManyBytes s m end count later bytes output rest more before fails = absurd fails

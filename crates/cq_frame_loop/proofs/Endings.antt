@@ -3,7 +3,7 @@ use Rattle.std.proofs.Common.{◌≡◌, ℕ, ◌⊎◌, Bool, true, false, List
 use Rattle.std.specs.Io.KnownBytes.{Consumes, IsAtEnd}
 use Rattle.std.proofs.KnownBytes.{Consumes-trans}
 use Rattle.cq_frame_loop.specs.Cutting.{frames_behind, frames_of}
-use Rattle.cq_frame_loop.specs.Chains.{Relation, AnswersAll, AnswersFront, frames_in}
+use Rattle.cq_frame_loop.specs.Chains.{Relation, Breaks, AnswersAll, AnswersFront, frames_in}
 use Rattle.cq_frame_loop.specs.Loops.{AnswersInput, LeavesReader, LeavesWriter}
 use Rattle.cq_frame_loop.specs.within.Advances.{Advances, FailsIn}
 use Rattle.cq_frame_loop.specs.within.Writes.{IsReadFault, IsWriting, LeavesAt}
@@ -37,52 +37,52 @@ module _ {S : Type 0} (answers : Relation S) where
   }
 
   -- at the end of the input
-  pub ends : (result : Result (Unit {0}) LoopFault) (s t : S) (input output : List ℕ) (left : Option (List ℕ)) → IsWriting result → IsAtEnd left
-      → AnswersAll answers s (frames_of input) output t → AnswersInput answers result s t input left output
-  ends (Ok _) s t input output left kind end all = (end, all)
-  ends (Err NoMemory) s t input output left kind end all = absurd kind
-  ends (Err ReadFailed) s t input output left kind end all = absurd kind
-  ends (Err WriteFailed) s t input output left kind end all = front_answered s t (frames_of input) output all
-  ends (Err Unanswered) s t input output left kind end all = absurd kind
-  ends (Err Interrupted) s t input output left kind end all = front_answered s t (frames_of input) output all
-  ends (Err TooManyBytes) s t input output left kind end all = absurd kind
+  pub ends : (breaks : Breaks S) (result : Result (Unit {0}) LoopFault) (s t : S) (input output : List ℕ) (left : Option (List ℕ)) → IsWriting result → IsAtEnd left
+      → AnswersAll answers s (frames_of input) output t → AnswersInput answers breaks result s t input left output
+  ends breaks (Ok _) s t input output left kind end all = (end, all)
+  ends breaks (Err NoMemory) s t input output left kind end all = absurd kind
+  ends breaks (Err ReadFailed) s t input output left kind end all = absurd kind
+  ends breaks (Err WriteFailed) s t input output left kind end all = front_answered s t (frames_of input) output all
+  ends breaks (Err Unanswered) s t input output left kind end all = absurd kind
+  ends breaks (Err Interrupted) s t input output left kind end all = front_answered s t (frames_of input) output all
+  ends breaks (Err TooManyBytes) s t input output left kind end all = absurd kind
 
   -- at a read that gave an error
-  pub read_fails : (fault : LoopFault) (s t : S) (input output : List ℕ) (left : Option (List ℕ)) (failed : Bool) → IsReadFault fault failed
-      → AnswersAll answers s (frames_of input) output t → AnswersInput answers (Err fault) s t input left output
-  read_fails NoMemory s t input output left failed kind all = absurd kind
-  read_fails ReadFailed s t input output left failed kind all = all
-  read_fails WriteFailed s t input output left failed kind all = absurd kind
-  read_fails Unanswered s t input output left failed kind all = absurd kind
-  read_fails Interrupted s t input output left failed kind all = front_answered s t (frames_of input) output all
-  read_fails TooManyBytes s t input output left failed kind all = absurd kind
+  pub read_fails : (breaks : Breaks S) (fault : LoopFault) (s t : S) (input output : List ℕ) (left : Option (List ℕ)) (failed : Bool) → IsReadFault fault failed
+      → AnswersAll answers s (frames_of input) output t → AnswersInput answers breaks (Err fault) s t input left output
+  read_fails breaks NoMemory s t input output left failed kind all = absurd kind
+  read_fails breaks ReadFailed s t input output left failed kind all = all
+  read_fails breaks WriteFailed s t input output left failed kind all = absurd kind
+  read_fails breaks Unanswered s t input output left failed kind all = absurd kind
+  read_fails breaks Interrupted s t input output left failed kind all = front_answered s t (frames_of input) output all
+  read_fails breaks TooManyBytes s t input output left failed kind all = absurd kind
 
   -- at a fault of a frame
-  pub fails : (fault : LoopFault) (s t : S) (input output : List ℕ) (left : Option (List ℕ)) → FailsIn answers fault s (frames_of input) output → AnswersInput answers (Err fault) s t input left output
-  fails NoMemory s t input output left failed = absurd failed
-  fails ReadFailed s t input output left failed = absurd failed
-  fails WriteFailed s t input output left failed = failed
-  fails Unanswered s t input output left failed = failed
-  fails Interrupted s t input output left failed = failed
-  fails TooManyBytes s t input output left failed = absurd failed
+  pub fails : (breaks : Breaks S) (fault : LoopFault) (s t : S) (input output : List ℕ) (left : Option (List ℕ)) → FailsIn answers breaks fault s (frames_of input) output t → AnswersInput answers breaks (Err fault) s t input left output
+  fails breaks NoMemory s t input output left failed = absurd failed
+  fails breaks ReadFailed s t input output left failed = absurd failed
+  fails breaks WriteFailed s t input output left failed = failed
+  fails breaks Unanswered s t input output left failed = failed
+  fails breaks Interrupted s t input output left failed = failed
+  fails breaks TooManyBytes s t input output left failed = absurd failed
 
   -- how that leaves the writer and the reader
-  pub fails_leaves : (fault : LoopFault) (s : S) (frames : List (Option (List ℕ))) (input output : List ℕ) (failed flushed : Bool) → FailsIn answers fault s frames output
+  pub fails_leaves : (breaks : Breaks S) (fault : LoopFault) (s t : S) (frames : List (Option (List ℕ))) (input output : List ℕ) (failed flushed : Bool) → FailsIn answers breaks fault s frames output t
       → LeavesAt fault failed flushed → LeavesWriter (Err fault) input failed flushed
-  fails_leaves NoMemory s frames input output failed flushed fails leaves = absurd fails
-  fails_leaves ReadFailed s frames input output failed flushed fails leaves = absurd fails
-  fails_leaves WriteFailed s frames input output failed flushed fails leaves = leaves
-  fails_leaves Unanswered s frames input output failed flushed fails leaves = leaves
-  fails_leaves Interrupted s frames input output failed flushed fails leaves = tt
-  fails_leaves TooManyBytes s frames input output failed flushed fails leaves = absurd fails
+  fails_leaves breaks NoMemory s t frames input output failed flushed fails leaves = absurd fails
+  fails_leaves breaks ReadFailed s t frames input output failed flushed fails leaves = absurd fails
+  fails_leaves breaks WriteFailed s t frames input output failed flushed fails leaves = leaves
+  fails_leaves breaks Unanswered s t frames input output failed flushed fails leaves = leaves
+  fails_leaves breaks Interrupted s t frames input output failed flushed fails leaves = tt
+  fails_leaves breaks TooManyBytes s t frames input output failed flushed fails leaves = absurd fails
 
-  pub fails_unread : (fault : LoopFault) (s : S) (frames : List (Option (List ℕ))) (output : List ℕ) (failed : Bool) → FailsIn answers fault s frames output → LeavesReader (Err fault) failed
-  fails_unread NoMemory s frames output failed fails = absurd fails
-  fails_unread ReadFailed s frames output failed fails = absurd fails
-  fails_unread WriteFailed s frames output failed fails = tt
-  fails_unread Unanswered s frames output failed fails = tt
-  fails_unread Interrupted s frames output failed fails = tt
-  fails_unread TooManyBytes s frames output failed fails = absurd fails
+  pub fails_unread : (breaks : Breaks S) (fault : LoopFault) (s t : S) (frames : List (Option (List ℕ))) (output : List ℕ) (failed : Bool) → FailsIn answers breaks fault s frames output t → LeavesReader (Err fault) failed
+  fails_unread breaks NoMemory s t frames output failed fails = absurd fails
+  fails_unread breaks ReadFailed s t frames output failed fails = absurd fails
+  fails_unread breaks WriteFailed s t frames output failed fails = tt
+  fails_unread breaks Unanswered s t frames output failed fails = tt
+  fails_unread breaks Interrupted s t frames output failed fails = tt
+  fails_unread breaks TooManyBytes s t frames output failed fails = absurd fails
 
 -- ---- how the end of the input, and a read that gave an error, leave the writer and the reader
 

@@ -1,11 +1,19 @@
 -- Frames that are answered one after another.
-use Rattle.std.specs.Prelude.{◌≡◌, ℕ, List, [], ◌∷◌, ◌++◌, map, Option}
+use Rattle.std.specs.Prelude.{◌≡◌, ℕ, List, [], ◌∷◌, ◌++◌, map, Option, ⊤}
 use Rattle.std.specs.List.{flat_map}
 use Rattle.cq_base.specs.Relations.{IsPrefix}
 
 -- What may be told of a frame, and the states before and after it. Of a frame that is too long there is none.
 abbrev pub Relation : Type 0 → Type 1
 Relation S = S → Option (List ℕ) → List ℕ → S → Type 0
+
+-- What a frame that can't be answered makes of a state.
+abbrev pub Breaks : Type 0 → Type 1
+Breaks S = S → Option (List ℕ) → S → Type 0
+
+-- anything
+abbrev pub any_break : {S : Type 0} → Breaks S
+any_break before frame after = ⊤
 
 -- a frame that was answered, what was told of it, and the state after it
 pub record Step (S : Type 0) : Type 0 where

@@ -2,21 +2,21 @@
 use Rattle.std.specs.Prelude.{◌≡◌, ℕ, ◌≤◌, ◌⊎◌, Bool, true, false, List, [], length, Option, Result, Ok, Err}
 use Rattle.std.specs.Io.KnownBytes.{IsAtEnd}
 use Rattle.cq_frame_loop.specs.Cutting.{frames_of}
-use Rattle.cq_frame_loop.specs.Chains.{Relation, AnswersAll, AnswersFront, BreaksOff}
+use Rattle.cq_frame_loop.specs.Chains.{Relation, Breaks, AnswersAll, AnswersFront, BreaksOff}
 use Rattle.cq_frame_loop.specs.declared.fault.LoopFault.{LoopFault}
 use Rattle.cq_frame_loop.specs.declared.fault.LoopFault.TheVariants.{NoMemory, ReadFailed, WriteFailed, Unanswered, Interrupted, TooManyBytes}
 use Rattle.cq_lines.specs.declared.text.TheConstants.{BYTES_LIMIT}
 
 -- The input was read, and the reader has these bytes left, if that is known. The output was written, and the handler came from the first
 -- state to the last. Memory is wanting only before the first read.
-abbrev pub AnswersInput : {S : Type 0} → Relation S → Result (Unit {0}) LoopFault → S → S → List ℕ → Option (List ℕ) → List ℕ → Type 0
-AnswersInput answers (Ok _) first last input left output = IsAtEnd left × AnswersAll answers first (frames_of input) output last
-AnswersInput answers (Err NoMemory) first last input left output = (input ≡ []) × ((output ≡ []) × (first ≡ last))
-AnswersInput answers (Err ReadFailed) first last input left output = AnswersAll answers first (frames_of input) output last
-AnswersInput answers (Err WriteFailed) first last input left output = AnswersFront answers first (frames_of input) output
-AnswersInput answers (Err Unanswered) first last input left output = BreaksOff answers first (frames_of input) output
-AnswersInput answers (Err Interrupted) first last input left output = AnswersFront answers first (frames_of input) output
-AnswersInput answers (Err TooManyBytes) first last input left output = (BYTES_LIMIT ≤ length input) × AnswersAll answers first (frames_of input) output last
+abbrev pub AnswersInput : {S : Type 0} → Relation S → Breaks S → Result (Unit {0}) LoopFault → S → S → List ℕ → Option (List ℕ) → List ℕ → Type 0
+AnswersInput answers breaks (Ok _) first last input left output = IsAtEnd left × AnswersAll answers first (frames_of input) output last
+AnswersInput answers breaks (Err NoMemory) first last input left output = (input ≡ []) × ((output ≡ []) × (first ≡ last))
+AnswersInput answers breaks (Err ReadFailed) first last input left output = AnswersAll answers first (frames_of input) output last
+AnswersInput answers breaks (Err WriteFailed) first last input left output = AnswersFront answers first (frames_of input) output
+AnswersInput answers breaks (Err Unanswered) first last input left output = (off : BreaksOff answers first (frames_of input) output) × breaks off.last off.unanswered last
+AnswersInput answers breaks (Err Interrupted) first last input left output = AnswersFront answers first (frames_of input) output
+AnswersInput answers breaks (Err TooManyBytes) first last input left output = (BYTES_LIMIT ≤ length input) × AnswersAll answers first (frames_of input) output last
 
 -- How the reader is left: whether it has failed.
 abbrev pub LeavesReader : Result (Unit {0}) LoopFault → Bool → Type 0

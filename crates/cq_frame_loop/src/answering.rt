@@ -39,7 +39,7 @@ fn answer_frame<H: FrameHandler, W: Sink>(
     ensures answers { OnOk result ((text : List ℕ) × (output : List ℕ) × H.answers handler.old (option_map (λ bytes. bytes.now) frame.entry) text handler.new
         × Appends (W.contents writer.old) (W.contents writer.new) output × (out.old.items ++ text ≡ output ++ out.new.items)) }
     ensures fails { IfErr result (λ fault. (output : List ℕ) × Appends (W.contents writer.old) (W.contents writer.new) output
-        × FailsAt H.answers fault handler.old (option_map (λ bytes. bytes.now) frame.entry) out.old.items output) }
+        × FailsAt H.answers H.breaks fault handler.old (option_map (λ bytes. bytes.now) frame.entry) out.old.items output handler.new) }
     ensures leaves { IfErr result (λ fault. LeavesAt fault (W.has_failed writer.new) (W.has_flushed writer.new)) }
     ensures empty { OnOk result (end.new.items ≡ []) }
     ensures room { ANSWER_ROOM ≤ vec_capacity end.new }
@@ -67,7 +67,7 @@ fn answer_each<H: FrameHandler, W: Sink>(
     ensures answers { IfOk result (λ left. (output : List ℕ) × Appends (W.contents writer.old) (W.contents writer.new) output
         × AdvancesTo H.answers handler.old count bytes.now (output ++ out.new.items) handler.new left.1 left.0) }
     ensures fails { IfErr result (λ fault. (output : List ℕ) × Appends (W.contents writer.old) (W.contents writer.new) output
-        × FailsIn H.answers fault handler.old (frames_behind count bytes.now) output) }
+        × FailsIn H.answers H.breaks fault handler.old (frames_behind count bytes.now) output handler.new) }
     ensures leaves { IfErr result (λ fault. LeavesAt fault (W.has_failed writer.new) (W.has_flushed writer.new)) }
     ensures empty { OnOk result (end.new.items ≡ []) }
     ensures room { ANSWER_ROOM ≤ vec_capacity end.new }
@@ -97,7 +97,7 @@ fn answer_all<H: FrameHandler, W: Sink>(
     ensures answers { IfOk result (λ left. (output : List ℕ) × Appends (W.contents writer.old) (W.contents writer.new) output
         × AdvancesTo H.answers handler.old count bytes.now output handler.new left.1 left.0) }
     ensures fails { IfErr result (λ fault. (output : List ℕ) × Appends (W.contents writer.old) (W.contents writer.new) output
-        × FailsIn H.answers fault handler.old (frames_behind count bytes.now) output) }
+        × FailsIn H.answers H.breaks fault handler.old (frames_behind count bytes.now) output handler.new) }
     ensures flushed { OnOk result (W.has_flushed writer.new ≡ true) }
     ensures leaves { IfErr result (λ fault. LeavesAt fault (W.has_failed writer.new) (W.has_flushed writer.new)) }
     ensures nothing { OnOk result (out.new.items ≡ []) }
@@ -133,7 +133,7 @@ pub(crate) fn answer_buffer<H: FrameHandler, W: Sink>(
         × (frames_behind left.1 (take left.0 buffer.new) ≡ [])) }
     ensures short { IfOk result (λ left. left.0 < FRAME_LIMIT + 4) }
     ensures fails { IfErr result (λ fault. (output : List ℕ) × Appends (W.contents writer.old) (W.contents writer.new) output
-        × FailsIn H.answers fault handler.old (frames_behind count (take len buffer.old)) output) }
+        × FailsIn H.answers H.breaks fault handler.old (frames_behind count (take len buffer.old)) output handler.new) }
     ensures flushed { OnOk result (W.has_flushed writer.new ≡ true) }
     ensures leaves { IfErr result (λ fault. LeavesAt fault (W.has_failed writer.new) (W.has_flushed writer.new)) }
     ensures nothing { OnOk result (out.new.items ≡ []) }

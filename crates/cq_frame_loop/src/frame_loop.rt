@@ -31,7 +31,7 @@ fn answer_with<H: FrameHandler, R: Source, W: Sink>(
     ensures answers { (input : List ℕ) × (output : List ℕ)
         × Consumes (R.remaining reader.old) (R.remaining reader.new) input
         × Appends (W.contents writer.old) (W.contents writer.new) output
-        × AnswersInput H.answers result handler.old handler.new input (R.remaining reader.new) output
+        × AnswersInput H.answers H.breaks result handler.old handler.new input (R.remaining reader.new) output
         × LeavesWriter result input (W.has_failed writer.new) (W.has_flushed writer.new) }
     ensures reader { LeavesReader result (R.has_failed reader.new) }
 {
@@ -70,7 +70,7 @@ pub fn answer_frames<H: FrameHandler, R: Source, W: Sink>(
     ensures answers { (input : List ℕ) × (output : List ℕ)
         × Consumes (R.remaining reader.old) (R.remaining reader.new) input
         × Appends (W.contents writer.old) (W.contents writer.new) output
-        × AnswersInput H.answers result handler.old handler.new input (R.remaining reader.new) output
+        × AnswersInput H.answers H.breaks result handler.old handler.new input (R.remaining reader.new) output
         × LeavesWriter result input (W.has_failed writer.new) (W.has_flushed writer.new) }
     ensures reader { LeavesReader result (R.has_failed reader.new) }
 {

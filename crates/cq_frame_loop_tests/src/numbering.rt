@@ -27,9 +27,12 @@ fn tell_bytes(frame: Option<&[u8]>, out: &mut Vec<u8>) -> Result<(), Unanswered>
 }
 
 impl FrameHandler for Numbering {
+    ghost use Rattle.cq_frame_loop.specs.Chains.{any_break};
     ghost use Rattle.cq_frame_loop_tests.specs.Numbering.{numbers};
 
     ghost answers = { numbers };
+
+    ghost breaks = { any_break };
 
     fn answer(
         &mut self,

@@ -1,5 +1,6 @@
 -- Commands that are read were written so, and what was written is read.
-use Rattle.std.proofs.Common.{◌≡◌, ℕ, ◌≤◌, true, cond, eqb, List, [], ◌∷◌, ◌++◌, Result, Ok, Err, refl, sym, subst}
+use Rattle.std.proofs.Common.{◌≡◌, ℕ, ◌^◌, ◌<◌, ◌≤◌, true, cond, eqb, List, [], ◌∷◌, ◌++◌, Result, Ok, Err, refl, sym, subst}
+use Rattle.std.specs.Int.{w64}
 use Rattle.std.proofs.lemmas.Bool.{eqb-true}
 use Rattle.cq_base.specs.declared.limits.TheConstants.{MOMENT_LIMIT}
 use Rattle.cq_frames.specs.declared.command.Command.{Command}
@@ -11,10 +12,10 @@ use Rattle.cq_wire.specs.declared.fault.WireFault.{WireFault}
 use Rattle.cq_wire.specs.declared.fault.WireFault.TheVariants.{BadTag}
 use Rattle.cq_wire.specs.Layout.{number32, number64, query, request, text}
 use Rattle.cq_wire.specs.Limits.{IsQuery, IsRequest, IsServer}
-use Rattle.cq_wire.specs.Reading.{◌>>=◌, server_at, moment_at, query_at, request_at}
+use Rattle.cq_wire.specs.Reading.{◌>>=◌, number_at, server_at, moment_at, query_at, request_at}
 use Rattle.cq_wire.proofs.Fronts.{IsBytes, IsBytes-rest, Takes, Takes-nothing, Takes-tagged, Reads, IsRead, ok_is, either, read_as}
-use Rattle.cq_wire.proofs.Sequences.{one, two, three, one_read, two_read, three_read}
-use Rattle.cq_wire.proofs.PartLaws.{moment_reads, moment_is_read, server_reads, server_is_read}
+use Rattle.cq_wire.proofs.Sequences.{one, three, one_read, three_read}
+use Rattle.cq_wire.proofs.PartLaws.{reads64, is_read64, moment_reads, moment_is_read, server_reads, server_is_read}
 use Rattle.cq_wire.proofs.AskLaws.{query_reads, query_is_read, request_reads, request_is_read}
 use Rattle.cq_frames.proofs.PartLaws.{party_reads, party_is_read, piece_number_reads, piece_number_is_read, piece_reads, piece_is_read}
 
@@ -25,8 +26,8 @@ IsCommandRead kind bytes x = Takes (kind ∷ bytes) (command x.0) x.1 × IsComma
 arrive_reads : (bytes : List ℕ) (x : Command × List ℕ) → IsBytes bytes → arrive_at bytes ≡ Ok x → IsCommandRead 0 bytes x
 unfolding arrive_at command
 arrive_reads bytes x fits e =
-    two number64 moment_at (λ n. n ≤ MOMENT_LIMIT) request request_at IsRequest commands.Arrive moment_reads request_reads bytes x fits e (IsCommandRead 0 bytes)
-    (λ a b rest t f. (Takes-tagged 0 bytes (number64 a ++ request b) rest t, f))
+    three number64 (number_at w64) (λ n. n < 2 ^ 64) number64 moment_at (λ n. n ≤ MOMENT_LIMIT) request request_at IsRequest commands.Arrive reads64 moment_reads request_reads bytes x fits e (IsCommandRead 0 bytes)
+    (λ a b c rest t f. (Takes-tagged 0 bytes (number64 a ++ (number64 b ++ request c)) rest t, f))
 
 ask_reads : (bytes : List ℕ) (x : Command × List ℕ) → IsBytes bytes → ask_at bytes ≡ Ok x → IsCommandRead 1 bytes x
 unfolding ask_at command
@@ -106,7 +107,7 @@ command_reads (kind ∷ rest) x fits e =
 
 pub command_is_read : IsRead command command_at IsCommand
 unfolding command command_at arrive_at ask_at take_at detect_at join_at more_at gone_at load_at
-command_is_read (commands.Arrive a b) rest fits = two_read number64 moment_at (λ n. n ≤ MOMENT_LIMIT) request request_at IsRequest commands.Arrive moment_is_read request_is_read a b rest fits
+command_is_read (commands.Arrive a b c) rest fits = three_read number64 (number_at w64) (λ n. n < 2 ^ 64) number64 moment_at (λ n. n ≤ MOMENT_LIMIT) request request_at IsRequest commands.Arrive is_read64 moment_is_read request_is_read a b c rest fits
 command_is_read (commands.Ask a) rest fits = one_read query query_at IsQuery commands.Ask query_is_read a rest fits
 command_is_read (commands.Take a b c) rest fits = three_read party party_at IsParty piece_number piece_number_at IsPieceNumber text piece_at IsPiece commands.Take party_is_read piece_number_is_read piece_is_read a b c rest fits
 command_is_read (commands.Detect a) rest fits = one_read number32 server_at IsServer commands.Detect server_is_read a rest fits

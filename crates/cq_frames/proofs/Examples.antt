@@ -1,5 +1,5 @@
 -- Worked layouts, one for each kind of command and of response, and what is read of bytes that are none.
-use Rattle.std.proofs.Common.{◌≡◌, ℕ, true, false, List, [], ◌∷◌, ◌++◌, Ok, Err, refl}
+use Rattle.std.proofs.Common.{◌≡◌, ℕ, true, false, Some, None, List, [], ◌∷◌, ◌++◌, Ok, Err, refl}
 use Rattle.std.specs.Prelude.{codes}
 use Rattle.cq_base.specs.declared.ask.Ask.TheVariants.{Remove}
 use Rattle.cq_base.specs.declared.party.Party.TheVariants.{Master, Clients, Server}
@@ -8,6 +8,7 @@ use Rattle.cq_frames.specs.declared.response.Response.TheVariants as responses
 use Rattle.cq_frames.specs.Frames.{frame_at}
 use Rattle.cq_frames.specs.Layout.{party, piece_number, command, response, standing}
 use Rattle.cq_frames.specs.Reading.{party_at, more_at, command_at, response_at}
+use Rattle.cq_frames.specs.Streams.{stream_at, stream_of}
 use Rattle.cq_wire.specs.declared.fault.WireFault.TheVariants.{BadTag, BytesLeft, Truncated}
 use Rattle.cq_wire.specs.Layout.{number32, number64, text, flag, ask, request, query}
 use Rattle.cq_wire.specs.Reading.{whole_at, all_of, number_at, bytes_at}
@@ -26,9 +27,26 @@ three = 3 ∷ 0 ∷ 0 ∷ 0 ∷ 0 ∷ 0 ∷ 0 ∷ 0 ∷ []
 name : List ℕ
 name = 6 ∷ 0 ∷ 0 ∷ 0 ∷ 113 ∷ 46 ∷ 102 ∷ 105 ∷ 102 ∷ 111 ∷ []
 
-the_arrival : command (commands.Arrive 258 (record { client = 7; number = 258; ask = Remove (codes "q.fifo") })) ≡ 0 ∷ (many ++ (seven ++ (many ++ (1 ∷ name))))
-unfolding command request ask text number32 number64 seven many name
+the_arrival : command (commands.Arrive 3 258 (record { client = 7; number = 258; ask = Remove (codes "q.fifo") })) ≡ 0 ∷ (three ++ (many ++ (seven ++ (many ++ (1 ∷ name)))))
+unfolding command request ask text number32 number64 seven many three name
 the_arrival = refl
+
+-- the stream of an arrival is there before the rest of it, where its number is whole
+the_stream : stream_of (1 ∷ 0 ∷ (three ++ (9 ∷ []))) ≡ Some 3
+unfolding stream_of stream_at number_at three
+the_stream = refl
+
+half_a_stream : stream_of (1 ∷ 0 ∷ 3 ∷ 0 ∷ 0 ∷ []) ≡ None
+unfolding stream_of stream_at number_at
+half_a_stream = refl
+
+no_stream_of_a_query : stream_of (1 ∷ 1 ∷ many) ≡ None
+unfolding stream_of stream_at many
+no_stream_of_a_query = refl
+
+no_stream_of_version_2 : stream_of (2 ∷ 0 ∷ three) ≡ None
+unfolding stream_of three
+no_stream_of_version_2 = refl
 
 the_query : command (commands.Ask (record { client = 7; tag = 258; queue = codes "q.fifo" })) ≡ 1 ∷ (seven ++ (many ++ name))
 unfolding command query text number32 number64 seven many name

@@ -20,7 +20,7 @@ piece_number n = number64 n.message ++ number64 n.index
 
 -- A byte for the kind, and the parts in their order; a piece stands behind its length.
 unfoldable pub command : Command → List ℕ
-command (commands.Arrive clock one) = 0 ∷ (number64 clock ++ request one)
+command (commands.Arrive stream clock one) = 0 ∷ (number64 stream ++ (number64 clock ++ request one))
 command (commands.Ask one) = 1 ∷ query one
 command (commands.Take from number piece) = 2 ∷ (party from ++ (piece_number number ++ text piece))
 command (commands.Detect server) = 3 ∷ number32 server

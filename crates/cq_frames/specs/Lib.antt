@@ -2,3 +2,4 @@ pub mod Frames
 pub mod Layout
 pub mod Limits
 pub mod Reading
+pub mod Streams

@@ -24,7 +24,7 @@ abbrev pub IsPieceNumber : PieceNumber → Type 0
 IsPieceNumber n = (n.message < 2 ^ 64) × (n.index < 2 ^ 64)
 
 abbrev pub IsCommand : Command → Type 0
-IsCommand (commands.Arrive clock one) = (clock ≤ MOMENT_LIMIT) × IsRequest one
+IsCommand (commands.Arrive stream clock one) = (stream < 2 ^ 64) × ((clock ≤ MOMENT_LIMIT) × IsRequest one)
 IsCommand (commands.Ask one) = IsQuery one
 IsCommand (commands.Take from number piece) = IsParty from × (IsPieceNumber number × IsPiece piece)
 IsCommand (commands.Detect server) = IsServer server

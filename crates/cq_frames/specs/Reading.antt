@@ -43,9 +43,10 @@ piece_at bytes = do
 
 unfoldable pub arrive_at : Reader Command
 arrive_at bytes = do
-  clock ← moment_at bytes
+  stream ← number_at w64 bytes
+  clock ← moment_at stream.1
   one ← request_at clock.1
-  Ok (commands.Arrive clock.0 one.0, one.1)
+  Ok (commands.Arrive stream.0 clock.0 one.0, one.1)
 
 unfoldable pub ask_at : Reader Command
 ask_at bytes = do

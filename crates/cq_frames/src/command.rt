@@ -1,4 +1,7 @@
 //! What a process is told by its host.
+ghost use Rattle.std.specs.Prelude.{◌≡◌};
+ghost use Rattle.cq_frames.specs.Streams.{stream_in};
+
 use crate::number::PieceNumber;
 use crate::piece::Piece;
 use cq_base::{Moment, Party, Query, Request, ServerId};
@@ -6,8 +9,10 @@ use cq_base::{Moment, Party, Query, Request, ServerId};
 /// What a process that keeps a server, or the master, of a chain is told by its host.
 #[derive(Debug)]
 pub enum Command {
-    /// At a server: a request arrives at that moment.
+    /// At a server: a request arrives at that moment, as the next one of that stream. Streams are numbered from 1, and what is refused
+    /// ends its stream and all lower ones.
     Arrive {
+        stream: u64,
         clock: Moment,
         request: Request,
     },
@@ -50,6 +55,7 @@ impl Drop for Command {
     fn drop(self) {
         match self {
             Command::Arrive {
+                stream: _,
                 clock: _,
                 request: _,
             } => (),
@@ -65,6 +71,22 @@ impl Drop for Command {
             Command::Gone { server: _ } => (),
             Command::Save => (),
             Command::Load { chunk: _ } => (),
+        }
+    }
+}
+
+impl Command {
+    /// The stream of an arrival: O(1).
+    pub fn stream(&self) -> Option<u64>
+        ensures { result ≡ stream_in self.now }
+    {
+        match self {
+            Command::Arrive {
+                stream,
+                clock: _,
+                request: _,
+            } => Some(*stream),
+            _ => None,
         }
     }
 }

@@ -5,14 +5,18 @@ ghost use Rattle.cq_wire.specs.Reading.{Gives};
 
 use crate::command::Command;
 use crate::party::{party_of, piece_number_of, piece_of};
-use cq_wire::{ReadFault, WireFault, moment_of, query_of, request_of, server_of};
+use cq_wire::{ReadFault, WireFault, moment_of, query_of, request_of, server_of, u64_of};
 use std::alloc::Global;
 
 #[tactic(auto, unfolding(crate::specs::Reading::arrive_at))]
 fn arrive_of(alloc: Global, bytes: &[u8]) -> Result<(Command, &[u8]), ReadFault>
     ensures { Gives (λ x. (x.0, x.1.now)) result (arrive_at bytes.now) }
 {
-    let (clock, rest) = match moment_of(bytes) {
+    let (stream, rest) = match u64_of(bytes) {
+        Ok(read) => read,
+        Err(fault) => return Err(fault),
+    };
+    let (clock, rest) = match moment_of(rest) {
         Ok(read) => read,
         Err(fault) => return Err(fault),
     };
@@ -20,7 +24,12 @@ fn arrive_of(alloc: Global, bytes: &[u8]) -> Result<(Command, &[u8]), ReadFault>
         Ok(read) => read,
         Err(fault) => return Err(fault),
     };
-    Ok((Command::Arrive { clock, request }, rest))
+    let command = Command::Arrive {
+        stream,
+        clock,
+        request,
+    };
+    Ok((command, rest))
 }
 
 #[tactic(auto, unfolding(crate::specs::Reading::ask_at))]

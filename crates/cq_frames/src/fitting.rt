@@ -36,7 +36,12 @@ pub fn command_fits(command: &Command)
     ensures { IsCommand command.now }
 {
     match command {
-        Command::Arrive { clock, request } => {
+        Command::Arrive {
+            stream,
+            clock,
+            request,
+        } => {
+            let _stream = *stream;
             let _moment = clock.get();
             request_fits(request);
         }

@@ -3,6 +3,7 @@ ghost use Rattle.cq_frames.specs.Frames.{AreCutOff};
 ghost use Rattle.cq_frames.specs.Layout.{command, response};
 ghost use Rattle.cq_frames.specs.Limits.{IsCommand, IsResponse};
 ghost use Rattle.cq_frames.specs.Reading.{command_at, response_at};
+ghost use Rattle.cq_frames.specs.Streams.{StreamsAreFirst};
 ghost use Rattle.cq_wire.specs.Laws.{AreReadBack, Differ};
 
 /// What is written of a command is read as that command.
@@ -28,4 +29,9 @@ pub fn two_responses_differ()
 /// What is written as a frame is cut off as that frame, whatever stands behind it.
 pub fn written_frames_are_cut_off()
     ensures { AreCutOff }
+{}
+
+/// What is read of bytes has the stream that they begin with: an arrival that one, and all other commands none.
+pub fn streams_are_read_first()
+    ensures { StreamsAreFirst }
 {}

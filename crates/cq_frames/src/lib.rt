@@ -15,6 +15,7 @@ mod put;
 mod read;
 mod response;
 mod responses;
+mod stream;
 mod write;
 
 pub use command::Command;
@@ -23,5 +24,6 @@ pub use frame::{FRAME_LIMIT, frame_of, write_frame};
 pub use number::PieceNumber;
 pub use piece::{PIECE_LIMIT, Piece};
 pub use read::{is_save, read_command, read_response};
-pub use response::{NO_MEMORY, NOT_HERE, Response, Standing};
+pub use response::{NO_MEMORY, NOT_HERE, Response, STREAM_ENDED, Standing};
+pub use stream::stream_of;
 pub use write::{write_command, write_response};

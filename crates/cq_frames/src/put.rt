@@ -47,8 +47,13 @@ pub fn put_command(out: &mut Writer, value: &Command) -> Result<(), NoMemory>
     ensures before { out.new.before ≡ out.old.before }
 {
     match value {
-        Command::Arrive { clock, request } => {
+        Command::Arrive {
+            stream,
+            clock,
+            request,
+        } => {
             out.put(&[0])?;
+            out.put_u64(*stream)?;
             out.put_u64(clock.get())?;
             put_request(out, request)
         }

@@ -10,6 +10,9 @@ pub const NOT_HERE: u32 = 47;
 /// The number under which a command is refused for which there is no memory: it can be given again.
 pub const NO_MEMORY: u32 = 20;
 
+/// The number under which an arrival is refused whose stream has ended.
+pub const STREAM_ENDED: u32 = 49;
+
 /// Where a server stands.
 #[derive(Clone, Copy, Debug, PartialEq, Eq)]
 pub struct Standing {

@@ -25,7 +25,7 @@ none-acted p q keeps = ([], keeps-alone p.core q.core keeps.core)
 
 -- a command, and the turns behind it
 command-acts : (p mid q : MasterProcess) (command : Command) (xs : List Sent) → Does p command mid → ActsAll (map action_of xs) mid.core q.core → Acted p q
-command-acts p mid q (commands.Arrive clock request) xs h k = absurd h
+command-acts p mid q (commands.Arrive stream clock request) xs h k = absurd h
 command-acts p mid q (commands.Ask query) xs h k = absurd h
 command-acts p mid q (commands.Take parties.Master number piece) xs h k = absurd h
 command-acts p mid q (commands.Take parties.Clients number piece) xs h k = absurd h

@@ -46,7 +46,7 @@ pub record RefusesOrder (refusal : Master → Option WorldFault) (p : MasterProc
 
 -- Why a command is refused.
 abbrev pub Refuses : MasterProcess → Command → ℕ → Type 0
-Refuses p (commands.Arrive clock request) code = code ≡ NOT_HERE
+Refuses p (commands.Arrive stream clock request) code = code ≡ NOT_HERE
 Refuses p (commands.Ask query) code = code ≡ NOT_HERE
 Refuses p (commands.Take from number piece) code = RefusesFrom p from number piece code
 Refuses p (commands.Detect server) code = RefusesOrder (refusal_of_detection server) p code

@@ -62,7 +62,7 @@ TakesFrom p q (parties.Server from) number piece = Takes p q from number piece
 
 -- What the process does of a command that it doesn't refuse.
 abbrev pub Does : MasterProcess → Command → MasterProcess → Type 0
-Does p (commands.Arrive clock request) q = ⊥
+Does p (commands.Arrive stream clock request) q = ⊥
 Does p (commands.Ask query) q = ⊥
 Does p (commands.Take from number piece) q = TakesFrom p q from number piece
 Does p (commands.Detect server) q = Orders (Detected server) p q

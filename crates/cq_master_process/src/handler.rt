@@ -3,9 +3,12 @@ use crate::process::MasterProcess;
 use cq_frame_loop::{FrameHandler, Unanswered};
 
 impl FrameHandler for MasterProcess {
+    ghost use Rattle.cq_frame_loop.specs.Chains.{any_break};
     ghost use Rattle.cq_master_process.specs.Answering.{Answers};
 
     ghost answers = { Answers };
+
+    ghost breaks = { any_break };
 
     fn answer(
         &mut self,

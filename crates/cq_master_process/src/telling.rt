@@ -8,6 +8,7 @@ ghost use Rattle.cq_frames.specs.declared.response.Response.TheVariants as respo
 ghost use Rattle.cq_master_process.specs.Cores.{piece_of};
 ghost use Rattle.cq_master_process.specs.Putting.{only_piece};
 ghost use Rattle.cq_master_process.specs.within.Telling.{IsEmptyFor, OnIdle, OnNoMemory, OnNothing, OnPut, TellsFirst, WaitsFor};
+ghost use Rattle.cq_process_frames.specs.declared.front.TheConstants.{FRONT_LIMIT};
 ghost use Rattle.cq_process_frames.specs.Frames.{frame, front};
 ghost use Rattle.cq_wire.specs.Limits.{IsServer};
 
@@ -34,7 +35,7 @@ pub enum Putting {
 /// Makes a frame of a message that stands behind its front, or cuts both off where it is too long.
 fn seal_or_cut(out: &mut Vec<u8>, start: usize, body: usize, number: PieceNumber) -> Putting
     requires order { start + 24 ≤ body }
-    requires short { body ≤ start + 100 }
+    requires short { body ≤ start + FRONT_LIMIT }
     requires within { body ≤ length out.old.items }
     ensures told { (old piece : List ℕ) (to : rust_party.Party) → out.old.items ≡ (old ++ front to) ++ piece → length old ≡ start
         → start + length (front to) ≡ body → OnPut result (out.new.items ≡ old ++ frame (responses.Put to number piece)) }

@@ -3,6 +3,7 @@ ghost use Rattle.std.specs.Prelude.{◌≡◌, ◌+◌, ◌≤◌, ◌<◌, ◌^
 ghost use Rattle.cq_base.specs.declared.party.Party as rust_party;
 ghost use Rattle.cq_frames.specs.declared.response.Response.TheVariants as responses;
 ghost use Rattle.cq_frames.specs.Layout.{piece_number};
+ghost use Rattle.cq_process_frames.specs.declared.front.TheConstants.{FRONT_LIMIT};
 ghost use Rattle.cq_process_frames.specs.Frames.{frame, front, mark};
 ghost use Rattle.cq_wire.specs.Layout.{number32};
 
@@ -11,6 +12,9 @@ use cq_base::{NoMemory, Party};
 use cq_frames::{PIECE_LIMIT, PieceNumber};
 use cq_wire::{VERSION, Writer};
 use std::mem;
+
+/// More bytes than stand before a piece in its frame, whoever it is for.
+pub const FRONT_LIMIT: usize = 100;
 
 /// A piece has more bytes than a frame may bear.
 #[derive(Clone, Copy, Debug)]
@@ -79,7 +83,7 @@ pub fn seal(
     number: PieceNumber,
 ) -> Result<(), TooLong>
     requires order { start + 24 ≤ body }
-    requires short { body ≤ start + 100 }
+    requires short { body ≤ start + FRONT_LIMIT }
     requires within { body ≤ length out.old.items }
     ensures ok { (old piece : List ℕ) (to : rust_party.Party) → out.old.items ≡ (old ++ front to) ++ piece → length old ≡ start
         → start + length (front to) ≡ body → OnOk result (out.new.items ≡ old ++ frame (responses.Put to number piece)) }

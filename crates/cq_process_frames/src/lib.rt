@@ -6,6 +6,6 @@ mod patch;
 mod put;
 mod small;
 
-pub use front::{TooLong, put_front, seal};
+pub use front::{FRONT_LIMIT, TooLong, put_front, seal};
 pub use put::{Unput, put_piece};
 pub use small::{tell_done, tell_heard, tell_refused, tell_unread, tell_waiting};

@@ -5,6 +5,7 @@ ghost use Rattle.cq_base.specs.Relations.{IsPrefix};
 ghost use Rattle.cq_chain.specs.Stands.{Keeps};
 ghost use Rattle.cq_frames.specs.declared.response.Response.TheVariants as responses;
 ghost use Rattle.cq_process.specs.Links.{ChangesOnly, end_of};
+ghost use Rattle.cq_process_frames.specs.declared.front.TheConstants.{FRONT_LIMIT};
 ghost use Rattle.cq_process_frames.specs.declared.put.Unput.TheVariants as unputs;
 ghost use Rattle.cq_process_frames.specs.Frames.{PutsFrame, frame, front, told_of};
 
@@ -48,7 +49,7 @@ fn tell(
     body: usize,
 ) -> Result<Result<Written, PutFault>, Unput>
     requires order { start + 24 ≤ body }
-    requires short { body ≤ start + 100 }
+    requires short { body ≤ start + FRONT_LIMIT }
     requires within { body ≤ length out.old.items }
     ensures same { IfOk result (λ told. told ≡ written) }
     ensures told { (old piece : List ℕ) (to : rust_party.Party) → out.old.items ≡ (old ++ front to) ++ piece → length old ≡ start

@@ -1,5 +1,5 @@
 -- What is done of a frame, as deeds.
-use Rattle.std.proofs.Common.{◌≡◌, ℕ, ◌+◌, ◌==◌, ◌&&◌, ◌∙◌, ap, sym, refl, subst, if◌then◌else◌, List, [], ◌∷◌, ◌++◌, append_assoc, true, false, Option, Some, None, inl, inr, Result, Ok, Err, arith}
+use Rattle.std.proofs.Common.{◌≡◌, ℕ, ◌+◌, ◌==◌, ◌&&◌, ◌∙◌, ap, sym, refl, subst, if◌then◌else◌, List, [], ◌∷◌, ◌++◌, append_assoc, Bool, true, false, Option, Some, None, inl, inr, Result, Ok, Err, arith}
 use Rattle.std.specs.Prelude.{◌⊎◌, nat_lt}
 use Rattle.std.specs.List.{AllByRecursion}
 use Rattle.std.proofs.lemmas.Bool.{and_parts, cases_Bool, eqb-true, true≢false}
@@ -18,7 +18,10 @@ use Rattle.cq_frames.specs.declared.command.Command.TheVariants as commands
 use Rattle.cq_frames.specs.declared.number.PieceNumber.{PieceNumber}
 use Rattle.cq_frames.specs.declared.response.Response.{Response}
 use Rattle.cq_frames.specs.declared.response.Response.TheVariants as responses
+use Rattle.cq_frames.specs.declared.response.TheConstants.{STREAM_ENDED}
 use Rattle.cq_frames.specs.Reading.{command_at}
+use Rattle.cq_frames.specs.Streams.{stream_in, stream_of}
+use Rattle.cq_frames.proofs.StreamLaws.{streams_are_first}
 use Rattle.cq_process.specs.declared.incoming.TakeFault.{TakeFault}
 use Rattle.cq_process.specs.declared.incoming.TakeFault.TheVariants as take_faults
 use Rattle.cq_process.specs.declared.incoming.Taken.{Taken}
@@ -27,7 +30,7 @@ use Rattle.cq_process.specs.declared.outgoing.TheConstants.{LINK_LIMIT}
 use Rattle.cq_process.specs.Faults.{take_code}
 use Rattle.cq_process.specs.Links.{Received, TakesPiece, end_of, is_gone, received_from}
 use Rattle.cq_process.specs.Taking.{is_next}
-use Rattle.cq_server_process.specs.Answers.{Answers, Beside, GoesAway, GoesOn, GoesWith, Happens, IsUnread, Leaves, Refuses, SendsMore, State, Takes, waiting}
+use Rattle.cq_server_process.specs.Answers.{Answers, AnswersBy, Beside, GoesAway, GoesOn, GoesWith, Happens, IsLate, IsUnread, Leaves, Process, Refuses, SendsMore, State, Takes, ended_with, has_ended, waiting}
 use Rattle.cq_server_process.specs.Turns.{at, frames}
 use Rattle.cq_wire.specs.declared.fault.ReadFault.{ReadFault}
 use Rattle.cq_wire.specs.declared.fault.ReadFault.TheVariants as read_faults
@@ -36,18 +39,22 @@ use Rattle.cq_wire.proofs.Fronts.{ok_is}
 use Rattle.cq_process_laws.specs.Deeds.{Acted, AllTo, IsInTurns, Came, Deed, Lost, Missed, Read, Rested, responses_in}
 use Rattle.cq_process_laws.specs.Laws.{AnswersAreActions}
 use Rattle.cq_process_laws.specs.Runs.{AreTold, PutsForNamed, BeginsWith, ComesOf, IsDone, IsRefusedWith, TellsNoPiece}
+use Rattle.cq_process_laws.specs.Passing.{refusal_of}
 use Rattle.cq_process_laws.proofs.Acting.{deeds-act, did-both, kept-from}
+use Rattle.cq_process_laws.proofs.Bringing.{done-told}
 use Rattle.cq_process_laws.proofs.Moments.{Did, DidAll, IsLetGo, IsNext, IsOutOfTurn, IsOwn, Misses, Now, OnlyFrom, Rests, Stays, now, with_at}
+use Rattle.cq_process_laws.proofs.Streams.{FollowsIn, goes-in, late-in, none-in, refused-in}
 use Rattle.cq_process_laws.proofs.Turning.{AllMake, Makes, all-turn, makes-none, responses-both, rests-same, sent, thrown-from}
 
--- What is done of a frame, by deeds from one state to the other.
-pub record Doing (p q : State) (frame : Option (List ℕ)) (text : List ℕ) : Type 0 where
+-- What is done of a frame, by deeds from one state to the other, and what becomes of the streams.
+pub record Doing (before : ℕ) (p q : State) (after : ℕ) (frame : Option (List ℕ)) (text : List ℕ) : Type 0 where
   pub told : List Response
   pub deeds : List Deed
   pub as_frames : text ≡ frames told
   pub are_told : AreTold told deeds
   pub comes : ComesOf q.links.gone.keys frame told deeds
   pub did : DidAll (now p) deeds (now q)
+  pub follows : FollowsIn before frame told after
 
 -- ---- states
 
@@ -281,7 +288,7 @@ more-begun to p q told before h = record {
   ]
 
 happens-begun : (command : Command) (p q : State) (told : List Response) (before : Option Party) → Happens command p q told before → Begun command p q told
-happens-begun (commands.Arrive clock request) p q told before h = beside-begun (commands.Arrive clock request) (Arrived clock request) p q told h.0 refl refl tt h.1.1
+happens-begun (commands.Arrive stream clock request) p q told before h = beside-begun (commands.Arrive stream clock request) (Arrived clock request) p q told h.0 refl refl tt h.1.1
 happens-begun (commands.Ask query) p q told before h = beside-begun (commands.Ask query) (Asked query) p q told h.0 refl refl tt h.1.1
 happens-begun (commands.Take from number piece) p q told before h = takes-begun from number piece p q told h.0 h.1.1
 happens-begun (commands.Gone server) p q told before h = away-begun server p q told h.0 h.1.1
@@ -297,8 +304,9 @@ no-pieces : (first : Option Party) (one : Response) → TellsNoPiece one → All
 no-pieces None one h = (h, tt)
 no-pieces (Some to) one h = (tt, (h, tt))
 
-carried : (command : Command) (p q : State) (bytes text : List ℕ) (told : List Response) → text ≡ frames told → whole_at command_at bytes ≡ Ok command → GoesOn command p q told → Doing p q (Some bytes) text
-carried command p q bytes text told is read h = record {
+carried : (command : Command) (before : ℕ) (p q : State) (bytes text : List ℕ) (told : List Response) → text ≡ frames told → whole_at command_at bytes ≡ Ok command → has_ended before (stream_in command) ≡ false → GoesOn command p q told
+    → Doing before p q before (Some bytes) text
+carried command before p q bytes text told is read in_time h = record {
   told = told;
   deeds = begun.first ++ (begun.own ++ turns.deeds);
   as_frames = is;
@@ -317,12 +325,16 @@ carried command p q bytes text told is read h = record {
     begins = begun.begins;
     before = h.put ++ waiting h.first;
     standing = h.standing;
-    ends = h.is ∙ sym (append_assoc h.put (waiting h.first) (responses.Done h.standing ∷ []));
+    ends = ends;
     is_own = subst (λ gone. PutsForNamed command gone begun.own) same-gone begun.is_own;
     in_turns = subst (λ gone. IsInTurns gone turns.deeds) same-gone turns.turns;
   });
   did = did-both begun.first (begun.own ++ turns.deeds) (now p) begun.mid (now q) begun.did (did-both begun.own turns.deeds begun.mid (now goes.mid) (now q) begun.did_own turns.did);
+  follows = goes-in before bytes told (ap (refusal_of None) ends ∙ done-told None (h.put ++ waiting h.first) h.standing) (ap (has_ended before) (streams_are_first bytes command read) ∙ in_time);
 } where
+  ends : told ≡ (h.put ++ waiting h.first) ++ responses.Done h.standing ∷ []
+  ends = h.is ∙ sym (append_assoc h.put (waiting h.first) (responses.Done h.standing ∷ []))
+
   goes : GoesWith command p q h.put h.first
   goes = h.goes
 
@@ -340,55 +352,79 @@ carried command p q bytes text told is read h = record {
 
 -- ---- one that is refused
 
-one-refused : (deed : Deed) (p q : State) (bytes text : List ℕ) (command : Command) (code : ℕ) → text ≡ frames (responses.Refused code ∷ []) → whole_at command_at bytes ≡ Ok command → IsRefusedWith command code (deed ∷ []) → responses_in (deed ∷ []) ≡ []
-    → Did deed (now p) (now q) → Doing p q (Some bytes) text
-one-refused deed p q bytes text command code is read refused quiet did = record {
+one-refused : (deed : Deed) (before : ℕ) (p q : State) (after : ℕ) (bytes text : List ℕ) (command : Command) (code : ℕ) → FollowsIn before (Some bytes) (responses.Refused code ∷ []) after → text ≡ frames (responses.Refused code ∷ []) → whole_at command_at bytes ≡ Ok command → IsRefusedWith command code (deed ∷ []) → responses_in (deed ∷ []) ≡ []
+    → Did deed (now p) (now q) → Doing before p q after (Some bytes) text
+one-refused deed before p q after bytes text command code follows is read refused quiet did = record {
   told = responses.Refused code ∷ [];
   deeds = deed ∷ [];
   as_frames = is;
   are_told = record { end = responses.Refused code ∷ []; is = ap (λ xs. xs ++ responses.Refused code ∷ []) (sym quiet); none = (tt, tt) };
   comes = inr (inl (record { command = command; read = read; code = code; is = refl; refused = refused }));
   did = (now q, (did, refl));
+  follows = follows;
 }
 
 same-stays : (p q : State) → q ≡ p → Stays (now p) (now q)
 same-stays p q same = subst (λ r. Stays (now p) (now r)) (sym same) (stays-kept (now p) (now p) (λ s outbox i. i) refl refl refl)
 
-refused : (command : Command) (p q : State) (bytes text : List ℕ) (code : ℕ) → text ≡ frames (responses.Refused code ∷ []) → whole_at command_at bytes ≡ Ok command → Refuses command code p q → Doing p q (Some bytes) text
-refused (commands.Arrive clock request) p q bytes text code is read h = one-refused Rested p q bytes text (commands.Arrive clock request) code is read refl refl
+refused : (command : Command) (before : ℕ) (p q : State) (after : ℕ) (bytes text : List ℕ) (code : ℕ) → FollowsIn before (Some bytes) (responses.Refused code ∷ []) after → text ≡ frames (responses.Refused code ∷ []) → whole_at command_at bytes ≡ Ok command → Refuses command code p q → Doing before p q after (Some bytes) text
+refused (commands.Arrive stream clock request) before p q after bytes text code follows is read h = one-refused Rested before p q after bytes text (commands.Arrive stream clock request) code follows is read refl refl
     (stays-kept (now p) (now q) h.keeps (ap (λ l. l.outgoing) h.links) (ap (λ l. l.incoming) h.links) (ap (λ l. l.gone.keys) h.links))
-refused (commands.Ask query) p q bytes text code is read h = one-refused Rested p q bytes text (commands.Ask query) code is read refl refl
+refused (commands.Ask query) before p q after bytes text code follows is read h = one-refused Rested before p q after bytes text (commands.Ask query) code follows is read refl refl
     (stays-kept (now p) (now q) h.keeps (ap (λ l. l.outgoing) h.links) (ap (λ l. l.incoming) h.links) (ap (λ l. l.gone.keys) h.links))
-refused (commands.Take from number piece) p q bytes text code is read h = one-refused (Missed from number piece code) p q bytes text (commands.Take from number piece) code is read refl refl (left-missed p q from number piece code h)
-refused (commands.Gone server) p q bytes text code is read h = one-refused Rested p q bytes text (commands.Gone server) code is read refl refl (stays-kept (now p) (now q) h.keeps h.outgoing h.incoming h.gone)
-refused (commands.More to) p q bytes text code is read h = absurd h
-refused (commands.Detect server) p q bytes text code is read h = one-refused Rested p q bytes text (commands.Detect server) code is read refl refl (same-stays p q h.1)
-refused (commands.Join server) p q bytes text code is read h = one-refused Rested p q bytes text (commands.Join server) code is read refl refl (same-stays p q h.1)
-refused commands.Save p q bytes text code is read h = one-refused Rested p q bytes text commands.Save code is read refl refl (same-stays p q h.1)
-refused (commands.Load chunk) p q bytes text code is read h = one-refused Rested p q bytes text (commands.Load chunk) code is read refl refl (same-stays p q h.1)
+refused (commands.Take from number piece) before p q after bytes text code follows is read h = one-refused (Missed from number piece code) before p q after bytes text (commands.Take from number piece) code follows is read refl refl (left-missed p q from number piece code h)
+refused (commands.Gone server) before p q after bytes text code follows is read h = one-refused Rested before p q after bytes text (commands.Gone server) code follows is read refl refl (stays-kept (now p) (now q) h.keeps h.outgoing h.incoming h.gone)
+refused (commands.More to) before p q after bytes text code follows is read h = absurd h
+refused (commands.Detect server) before p q after bytes text code follows is read h = one-refused Rested before p q after bytes text (commands.Detect server) code follows is read refl refl (same-stays p q h.1)
+refused (commands.Join server) before p q after bytes text code follows is read h = one-refused Rested before p q after bytes text (commands.Join server) code follows is read refl refl (same-stays p q h.1)
+refused commands.Save before p q after bytes text code follows is read h = one-refused Rested before p q after bytes text commands.Save code follows is read refl refl (same-stays p q h.1)
+refused (commands.Load chunk) before p q after bytes text code follows is read h = one-refused Rested before p q after bytes text (commands.Load chunk) code follows is read refl refl (same-stays p q h.1)
+
+-- ---- an arrival that is late
+
+-- nothing but an arrival is
+late-rests : (command : Command) (ended : ℕ) → has_ended ended (stream_in command) ≡ true → IsRefusedWith command STREAM_ENDED (Rested ∷ [])
+late-rests (commands.Take from number piece) ended h = absurd (true≢false (sym h))
+late-rests command ended h = refl
+
+late : (command : Command) (p q : Process) (bytes text : List ℕ) (told : List Response) → text ≡ frames told → whole_at command_at bytes ≡ Ok command → IsLate command p q told → Doing p.ended p.state q.state q.ended (Some bytes) text
+late command p q bytes text told is read h = subst (λ (r : Process). Doing p.ended p.state r.state r.ended (Some bytes) text) (sym h.stays)
+    (one-refused Rested p.ended p.state p.state p.ended bytes text command STREAM_ENDED
+    (late-in p.ended bytes (responses.Refused STREAM_ENDED ∷ []) refl (ap (has_ended p.ended) (streams_are_first bytes command read) ∙ h.late))
+    (is ∙ ap frames h.is) read (late-rests command p.ended h.late) refl (same-stays p.state p.state refl))
+
+-- ---- and any other one
+
+in-time : (command : Command) (p q : Process) (bytes text : List ℕ) (told : List Response) → text ≡ frames told → whole_at command_at bytes ≡ Ok command → has_ended p.ended (stream_in command) ≡ false
+    → (is_refused : Bool) → AnswersBy is_refused command p.state q.state told → q.ended ≡ (if is_refused then ended_with p.ended (stream_in command) else p.ended) → Doing p.ended p.state q.state q.ended (Some bytes) text
+in-time command p q bytes text told is read in_time false goes ended = subst (λ after. Doing p.ended p.state q.state after (Some bytes) text) (sym ended) (carried command p.ended p.state q.state bytes text told is read in_time goes)
+in-time command p q bytes text told is read in_time true fault ended = refused command p.ended p.state q.state q.ended bytes text fault.code
+    (refused-in p.ended bytes (responses.Refused fault.code ∷ []) q.ended refl (ended ∙ ap (ended_with p.ended) (sym (streams_are_first bytes command read)))) (is ∙ ap frames fault.is) read fault.refuses
 
 -- ---- and one that isn't read
 
-unread : (p q : State) (frame : Option (List ℕ)) (text : List ℕ) (told : List Response) → text ≡ frames told → q ≡ p → AllByRecursion TellsNoPiece told → ComesOf q.links.gone.keys frame told [] → Doing p q frame text
-unread p q frame text told is same none comes = record { told = told; deeds = []; as_frames = is; are_told = record { end = told; is = refl; none = none }; comes = comes; did = ap now (sym same) }
+unread : (p q : Process) (frame : Option (List ℕ)) (text : List ℕ) (told : List Response) → text ≡ frames told → q.state ≡ p.state → AllByRecursion TellsNoPiece told → ComesOf q.state.links.gone.keys frame told [] → FollowsIn p.ended frame told q.ended
+    → Doing p.ended p.state q.state q.ended frame text
+unread p q frame text told is same none comes follows = record { told = told; deeds = []; as_frames = is; are_told = record { end = told; is = refl; none = none }; comes = comes; did = ap now (sym same); follows = follows }
 
-unread-bytes : (fault : ReadFault) (p q : State) (bytes text : List ℕ) (told : List Response) → text ≡ frames told → Fails fault (whole_at command_at bytes) → IsUnread fault p q told → Doing p q (Some bytes) text
+unread-bytes : (fault : ReadFault) (p q : Process) (bytes text : List ℕ) (told : List Response) → text ≡ frames told → Fails fault (whole_at command_at bytes) → IsUnread fault (stream_of bytes) p q told → Doing p.ended p.state q.state q.ended (Some bytes) text
 unread-bytes read_faults.NoMemory p q bytes text told is fails h = unread p q (Some bytes) text told is h.stays (subst (AllByRecursion TellsNoPiece) (sym h.is) (tt, tt)) (inr (inr (record { unread = inl h.is; nothing = refl })))
+    (refused-in p.ended bytes told q.ended (ap (refusal_of None) h.is) h.ended)
 unread-bytes (read_faults.Bad fault) p q bytes text told is fails h = unread p q (Some bytes) text told is h.stays (subst (AllByRecursion TellsNoPiece) (sym h.is) (tt, tt))
-    (inr (inr (record { unread = inr (fault, (fails, h.is)); nothing = refl })))
+    (inr (inr (record { unread = inr (fault, (fails, h.is)); nothing = refl }))) (refused-in p.ended bytes told q.ended (ap (refusal_of None) h.is) h.ended)
 
-pub doing : (p q : State) (frame : Option (List ℕ)) (text : List ℕ) → Answers p frame text q → Doing p q frame text
-doing p q None text h = unread p q None text h.0 h.1.0 h.1.1.stays (subst (AllByRecursion TellsNoPiece) (sym h.1.1.is) (tt, tt)) (record { unread = h.1.1.is; nothing = refl })
+pub doing : (p q : Process) (frame : Option (List ℕ)) (text : List ℕ) → Answers p frame text q → Doing p.ended p.state q.state q.ended frame text
+doing p q None text h = unread p q None text h.0 h.1.0 h.1.1.stays (subst (AllByRecursion TellsNoPiece) (sym h.1.1.is) (tt, tt)) (record { unread = h.1.1.is; nothing = refl }) (none-in p.ended h.0 q.ended h.1.1.ended)
 doing p q (Some bytes) text h = elim h.1.1 [
   | inl none ↦ unread-bytes none.0 p q bytes text h.0 h.1.0 none.1.0 none.1.1
   | inr one ↦ elim one.1.1 [
-    | inl goes ↦ carried one.0 p q bytes text h.0 h.1.0 one.1.0 goes
-    | inr fault ↦ refused one.0 p q bytes text fault.code (h.1.0 ∙ ap frames fault.is) one.1.0 fault.refuses
+    | inl is_late ↦ late one.0 p q bytes text h.0 h.1.0 one.1.0 is_late
+    | inr goes ↦ in-time one.0 p q bytes text h.0 h.1.0 one.1.0 goes.in_time goes.is_refused goes.answers goes.ended
   ]
 ]
 
-pub done-of : (p q : State) (frame : Option (List ℕ)) (text : List ℕ) (d : Doing p q frame text) → IsDone p q frame text (record { told = d.told; deeds = d.deeds })
-done-of p q frame text d = record { as_frames = d.as_frames; told = d.are_told; comes = d.comes; acts = deeds-act d.deeds (now p) (now q) d.did }
+pub done-of : (before : ℕ) (p q : State) (after : ℕ) (frame : Option (List ℕ)) (text : List ℕ) (d : Doing before p q after frame text) → IsDone p q frame text (record { told = d.told; deeds = d.deeds })
+done-of before p q after frame text d = record { as_frames = d.as_frames; told = d.are_told; comes = d.comes; acts = deeds-act d.deeds (now p) (now q) d.did }
 
 pub answers-are-actions : AnswersAreActions
-answers-are-actions p q frame text h = let d = doing p q frame text h in (record { told = d.told; deeds = d.deeds }, done-of p q frame text d)
+answers-are-actions p q frame text h = let d = doing p q frame text h in (record { told = d.told; deeds = d.deeds }, done-of p.ended p.state q.state q.ended frame text d)

@@ -53,7 +53,7 @@ own-none from (commands.Gone server) gone own h = sent-none from (parties.Server
 own-none from command gone own h = ap (pieces_from from) h
 
 begun-brings : (from : Party) (command : Command) (first : List Deed) → BeginsWith command first → brought_by from None (Ok command) ≡ pieces_from from first
-begun-brings from (commands.Arrive clock request) first h = sym (ap (pieces_from from) h)
+begun-brings from (commands.Arrive stream clock request) first h = sym (ap (pieces_from from) h)
 begun-brings from (commands.Ask query) first h = sym (ap (pieces_from from) h)
 begun-brings from (commands.Take other number piece) first (inl h) = sym (append-nil (brought_by from None (Ok (commands.Take other number piece)))) ∙ sym (ap (pieces_from from) h)
 begun-brings from (commands.Take other number piece) first (inr h) = sym (append-nil (brought_by from None (Ok (commands.Take other number piece)))) ∙ sym (ap (pieces_from from) h.1)
@@ -66,7 +66,7 @@ begun-brings from (commands.Load chunk) first h = absurd h
 
 refused-brings : (from : Party) (command : Command) (code : ℕ) (deeds : List Deed) → IsRefusedWith command code deeds → brought_by from (Some code) (Ok command) ≡ pieces_from from deeds
 refused-brings from (commands.Take other number piece) code deeds h = sym (append-nil (brought_by from (Some code) (Ok (commands.Take other number piece)))) ∙ sym (ap (pieces_from from) h)
-refused-brings from (commands.Arrive clock request) code deeds h = sym (ap (pieces_from from) h)
+refused-brings from (commands.Arrive stream clock request) code deeds h = sym (ap (pieces_from from) h)
 refused-brings from (commands.Ask query) code deeds h = sym (ap (pieces_from from) h)
 refused-brings from (commands.Gone server) code deeds h = sym (ap (pieces_from from) h)
 refused-brings from (commands.More to) code deeds h = sym (ap (pieces_from from) h)
@@ -75,7 +75,7 @@ refused-brings from (commands.Join server) code deeds h = sym (ap (pieces_from f
 refused-brings from commands.Save code deeds h = sym (ap (pieces_from from) h)
 refused-brings from (commands.Load chunk) code deeds h = sym (ap (pieces_from from) h)
 
-done-told : (so_far : Option ℕ) (before : List Response) (standing : Standing) → refusal_of so_far (before ++ responses.Done standing ∷ []) ≡ None
+pub done-told : (so_far : Option ℕ) (before : List Response) (standing : Standing) → refusal_of so_far (before ++ responses.Done standing ∷ []) ≡ None
 done-told so_far [] standing = refl
 done-told so_far (one ∷ before) standing = done-told _ before standing
 

@@ -6,6 +6,7 @@ pub mod Numbering
 pub mod Leaving
 pub mod Coming
 pub mod Bringing
+pub mod Streams
 pub mod Running
 pub mod Joining
 mod Examples

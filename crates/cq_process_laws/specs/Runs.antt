@@ -3,6 +3,7 @@ use Rattle.std.specs.Prelude.{◌≡◌, ℕ, List, [], ◌∷◌, ◌++◌, fla
 use Rattle.std.specs.List.{AllByRecursion}
 use Rattle.cq_base.specs.declared.party.Party.{Party}
 use Rattle.cq_base.specs.declared.party.Party.TheVariants as parties
+use Rattle.cq_base.specs.Relations.{IsPrefix}
 use Rattle.cq_chain.specs.declared.message.Message as rust
 use Rattle.cq_chain.specs.declared.server.Server as rust_server
 use Rattle.cq_chain.specs.Servers as states
@@ -25,6 +26,7 @@ use Rattle.cq_wire.specs.Faults.{wire_code}
 use Rattle.cq_wire.specs.Reading.{whole_at}
 use Rattle.cq_process_laws.specs.Deeds.{Acted, AllTo, Came, Deed, IsInTurns, Lost, Missed, Read, Rested, actions_in, responses_in}
 use Rattle.cq_process_laws.specs.Passing.{ArePutAsTold, Numbered, WereRead, brought_in, pieces_for}
+use Rattle.cq_process_laws.specs.Streams.{given_of, taken_in}
 
 -- the core of a process, with the messages that are being written
 abbrev pub core_of : State → CoreState rust_server.Server
@@ -38,7 +40,7 @@ state_of process = state process.links process.core
 
 -- what comes of a command by itself
 abbrev pub BeginsWith : Command → List Deed → Type 0
-BeginsWith (commands.Arrive clock request) first = first ≡ Acted (Arrived clock request) ∷ []
+BeginsWith (commands.Arrive stream clock request) first = first ≡ Acted (Arrived clock request) ∷ []
 BeginsWith (commands.Ask query) first = first ≡ Acted (Asked query) ∷ []
 BeginsWith (commands.Take from number piece) first = (first ≡ Came from number piece ∷ []) ⊎ ((message : rust.Message) × (first ≡ Read from number piece message ∷ []))
 BeginsWith (commands.Gone server) first = first ≡ Lost (parties.Server server) ∷ []
@@ -150,6 +152,12 @@ brought_from from [] done = []
 brought_from from (step ∷ steps) [] = []
 brought_from from (step ∷ steps) (one ∷ rest) = brought_in from step.frame one.told ++ brought_from from steps rest
 
+-- the arrivals of a stream that were taken
+abbrev pub taken_of : ℕ → List (Step ServerProcess) → List Done → List (List ℕ)
+taken_of stream [] done = []
+taken_of stream (step ∷ steps) [] = []
+taken_of stream (step ∷ steps) (one ∷ rest) = taken_in stream step.frame one.told ++ taken_of stream steps rest
+
 -- What a process did that was new, with a server that stood for that.
 pub record IsRun (s : states.Server) (first : State) (steps : List (Step ServerProcess)) (last : State) : Type 0 where
   pub done : List Done
@@ -162,3 +170,5 @@ pub record IsRun (s : states.Server) (first : State) (steps : List (Step ServerP
   pub out : (to : Party) → ArePutAsTold (is_gone last.links.gone.keys to) (put_to to (all_actions done)) (pieces_for to (told_in done))
   -- what it took from a party was read of pieces that frames brought
   pub into : (from : Party) → WereRead 1 (taken_from from (all_actions done)) (brought_from from steps done)
+  -- of each stream it took the first arrivals that it was given, in order, and left none out between them
+  pub streams : (stream : ℕ) → IsPrefix (taken_of stream steps done) (given_of stream steps)

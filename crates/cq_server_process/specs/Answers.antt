@@ -1,5 +1,5 @@
 -- What a process does of a command, and what it tells.
-use Rattle.std.specs.Prelude.{◌≡◌, ℕ, List, [], ◌∷◌, ◌++◌, length, Option, None, Some, true, false, Result, Ok, Err, ◌⊎◌}
+use Rattle.std.specs.Prelude.{◌≡◌, ℕ, List, [], ◌∷◌, ◌++◌, length, Option, None, Some, Bool, true, false, if◌then◌else◌, nat_le, Result, Ok, Err, ◌⊎◌}
 use Rattle.cq_base.specs.declared.party.Party.{Party}
 use Rattle.cq_base.specs.declared.party.Party.TheVariants as parties
 use Rattle.cq_base.specs.queue.History.{last_moment}
@@ -19,8 +19,9 @@ use Rattle.cq_frames.specs.declared.number.PieceNumber.{PieceNumber}
 use Rattle.cq_frames.specs.declared.response.Response.{Response}
 use Rattle.cq_frames.specs.declared.response.Response.TheVariants as responses
 use Rattle.cq_frames.specs.declared.response.Standing.{Standing}
-use Rattle.cq_frames.specs.declared.response.TheConstants.{NO_MEMORY, NOT_HERE}
+use Rattle.cq_frames.specs.declared.response.TheConstants.{NO_MEMORY, NOT_HERE, STREAM_ENDED}
 use Rattle.cq_frames.specs.Reading.{command_at}
+use Rattle.cq_frames.specs.Streams.{stream_in, stream_of}
 use Rattle.cq_process.specs.declared.incoming.TakeFault.{TakeFault}
 use Rattle.cq_process.specs.declared.incoming.TakeFault.TheVariants as take_faults
 use Rattle.cq_process.specs.declared.incoming.Taken.{Taken}
@@ -39,13 +40,21 @@ use Rattle.cq_wire.specs.declared.fault.WireFault.TheVariants.{BadNumber}
 use Rattle.cq_wire.specs.Faults as wire_faults
 use Rattle.cq_wire.specs.Reading.{Fails, whole_at}
 
--- What a process has: its links, and its core.
+-- What a process has that commands change: its links, and its core.
 pub record State : Type 0 where
   pub links : Links
   pub core : rust_server.Server
 
 abbrev pub state : Links → rust_server.Server → State
 state links core = record { links = links; core = core }
+
+-- What it has: that, and the largest number of a stream of arrivals that has ended, 0 where none has. All streams up to that one have.
+pub record Process : Type 0 where
+  pub state : State
+  pub ended : ℕ
+
+abbrev pub process : Links → rust_server.Server → ℕ → Process
+process links core ended = record { state = state links core; ended = ended }
 
 -- ---- what happens
 
@@ -92,7 +101,7 @@ Quietly told before happens = (told ≡ []) × ((before ≡ None) × happens)
 
 -- What comes of a command before the turns: what is told, and the party for which something waits.
 abbrev pub Happens : Command → State → State → List Response → Option Party → Type 0
-Happens (commands.Arrive clock request) p q told before = Quietly told before (Beside (Arrived clock request) p q)
+Happens (commands.Arrive stream clock request) p q told before = Quietly told before (Beside (Arrived clock request) p q)
 Happens (commands.Ask query) p q told before = Quietly told before (Beside (Asked query) p q)
 Happens (commands.Take from number piece) p q told before = Quietly told before (Takes from number piece p q)
 Happens (commands.Gone server) p q told before = Quietly told before (GoesAway server p q)
@@ -137,7 +146,7 @@ IsNotHere code p q = (code ≡ NOT_HERE) × (q ≡ p)
 
 -- How a command is refused, by the fault of that number.
 abbrev pub Refuses : Command → ℕ → State → State → Type 0
-Refuses (commands.Arrive clock request) code p q = IsRefused refusal_of_arrival code p q
+Refuses (commands.Arrive stream clock request) code p q = IsRefused refusal_of_arrival code p q
 Refuses (commands.Ask query) code p q = IsRefused refusal_of_query code p q
 Refuses (commands.Take from number piece) code p q = Leaves from number piece code p q
 Refuses (commands.Gone server) code p q = Stays code p q
@@ -190,27 +199,58 @@ pub record IsRefusedAs (command : Command) (p q : State) (told : List Response) 
   pub refuses : Refuses command code p q
   pub is : told ≡ responses.Refused code ∷ []
 
-abbrev pub AnswersCommand : Command → State → State → List Response → Type 0
-AnswersCommand command p q told = GoesOn command p q told ⊎ IsRefusedAs command p q told
+-- By whether it is refused.
+abbrev pub AnswersBy : Bool → Command → State → State → List Response → Type 0
+AnswersBy false command p q told = GoesOn command p q told
+AnswersBy true command p q told = IsRefusedAs command p q told
+
+-- ---- by the streams that have ended
+
+-- whether that stream has, where all up to one have; what is no arrival has none
+abbrev pub has_ended : ℕ → Option ℕ → Bool
+has_ended ended None = false
+has_ended ended (Some stream) = nat_le stream ended
+
+-- up to which one all have, where that stream ends too
+abbrev pub ended_with : ℕ → Option ℕ → ℕ
+ended_with ended None = ended
+ended_with ended (Some stream) = if nat_le stream ended then ended else stream
+
+-- An arrival of a stream that has ended is refused, and nothing happens.
+pub record IsLate (command : Command) (p q : Process) (told : List Response) : Type 0 where
+  pub late : has_ended p.ended (stream_in command) ≡ true
+  pub stays : q ≡ p
+  pub is : told ≡ responses.Refused STREAM_ENDED ∷ []
+
+-- All other commands happen or are refused, and an arrival that is refused ends its stream.
+pub record IsInTime (command : Command) (p q : Process) (told : List Response) : Type 0 where
+  pub in_time : has_ended p.ended (stream_in command) ≡ false
+  pub is_refused : Bool
+  pub answers : AnswersBy is_refused command p.state q.state told
+  pub ended : q.ended ≡ (if is_refused then ended_with p.ended (stream_in command) else p.ended)
+
+abbrev pub AnswersCommand : Command → Process → Process → List Response → Type 0
+AnswersCommand command p q told = IsLate command p q told ⊎ IsInTime command p q told
 
 -- how it is told that a command couldn't be read: its bytes are those of none, or there was no memory, and it can be given again
 abbrev pub unread_as : ReadFault → List Response
 unread_as read_faults.NoMemory = responses.Refused (wire_faults.code_of read_faults.NoMemory) ∷ []
 unread_as (read_faults.Bad fault) = responses.Unread (wire_faults.wire_code fault) ∷ []
 
--- A command couldn't be read: that is told, and nothing happens.
-pub record IsUnread (fault : ReadFault) (p q : State) (told : List Response) : Type 0 where
-  pub stays : q ≡ p
+-- A command couldn't be read: that is told, and nothing happens. Where its bytes begin as those of an arrival, its stream ends.
+pub record IsUnread (fault : ReadFault) (stream : Option ℕ) (p q : Process) (told : List Response) : Type 0 where
+  pub stays : q.state ≡ p.state
+  pub ended : q.ended ≡ ended_with p.ended stream
   pub is : told ≡ unread_as fault
 
 -- What is told of the bytes of a frame, or of a frame that is too long.
-abbrev pub AnswersBytes : Option (List ℕ) → State → State → List Response → Type 0
-AnswersBytes None p q told = IsUnread (read_faults.Bad BadNumber) p q told
-AnswersBytes (Some bytes) p q told = ((fault : ReadFault) × (Fails fault (whole_at command_at bytes) × IsUnread fault p q told))
+abbrev pub AnswersBytes : Option (List ℕ) → Process → Process → List Response → Type 0
+AnswersBytes None p q told = IsUnread (read_faults.Bad BadNumber) None p q told
+AnswersBytes (Some bytes) p q told = ((fault : ReadFault) × (Fails fault (whole_at command_at bytes) × IsUnread fault (stream_of bytes) p q told))
     ⊎ ((command : Command) × ((whole_at command_at bytes ≡ Ok command) × AnswersCommand command p q told))
 
 -- The same as bytes.
-abbrev pub Answers : State → Option (List ℕ) → List ℕ → State → Type 0
+abbrev pub Answers : Process → Option (List ℕ) → List ℕ → Process → Type 0
 Answers p frame text q = (told : List Response) × ((text ≡ frames told) × AnswersBytes frame p q told)
 
 -- ---- and the bytes
@@ -227,7 +267,7 @@ abbrev pub TellsCommand : Command → State → State → Result (Option Party) 
 TellsCommand command p q (Ok first) old new = (told : List Response) × ((new ≡ old ++ frames told) × GoesWith command p q told first)
 TellsCommand command p q (Err code) old new = (new ≡ old) × Refuses command code p q
 
-abbrev pub TellsAnswer : Option (List ℕ) → State → State → List ℕ → List ℕ → List ℕ → Type 0
+abbrev pub TellsAnswer : Option (List ℕ) → Process → Process → List ℕ → List ℕ → List ℕ → Type 0
 TellsAnswer frame p q old new end = (text : List ℕ) × ((new ++ end ≡ old ++ text) × Answers p frame text q)
 
 -- the end of an answer, in room of its own
@@ -235,14 +275,18 @@ abbrev pub TellsEnd : rust_server.Server → Result (Option Party) ℕ → List 
 TellsEnd core (Ok first) text = (standing : Standing) × (StandsSo core standing × (text ≡ frames (waiting first ++ responses.Done standing ∷ [])))
 TellsEnd core (Err code) text = text ≡ frames (responses.Refused code ∷ [])
 
-abbrev pub TellsOfCommand : Command → State → State → List ℕ → List ℕ → List ℕ → Type 0
+abbrev pub TellsBy : Bool → Command → State → State → List ℕ → List ℕ → List ℕ → Type 0
+TellsBy is_refused command p q old new end = (told : List Response) × ((new ++ end ≡ old ++ frames told) × AnswersBy is_refused command p q told)
+
+abbrev pub TellsOfCommand : Command → Process → Process → List ℕ → List ℕ → List ℕ → Type 0
 TellsOfCommand command p q old new end = (told : List Response) × ((new ++ end ≡ old ++ frames told) × AnswersCommand command p q told)
 
 -- ---- a new process
 
--- Its server stands for that and has nothing for anyone; nothing came, and no link is open.
-pub record IsNewProcess (s : states.Server) (p : State) : Type 0 where
-  pub core : StandsFor p.core s (λ _. [])
-  pub incoming : (party : Party) → end_of p.links.incoming party ≡ None
-  pub outgoing : (party : Party) → end_of p.links.outgoing party ≡ None
-  pub gone : (party : Party) → is_gone p.links.gone.keys party ≡ false
+-- Its server stands for that and has nothing for anyone; nothing came, no link is open, and no stream has ended.
+pub record IsNewProcess (s : states.Server) (p : Process) : Type 0 where
+  pub core : StandsFor p.state.core s (λ _. [])
+  pub incoming : (party : Party) → end_of p.state.links.incoming party ≡ None
+  pub outgoing : (party : Party) → end_of p.state.links.outgoing party ≡ None
+  pub gone : (party : Party) → is_gone p.state.links.gone.keys party ≡ false
+  pub ended : p.ended ≡ 0

@@ -1,14 +1,17 @@
 //! What is told of a frame.
-ghost use Rattle.std.specs.Prelude.{◌≡◌, ◌+◌, ◌≤◌, ◌++◌, Some, option_map, IfOk, OnErr, OnOk, vec_capacity, vec_len};
+ghost use Rattle.std.specs.Prelude.{◌≡◌, ◌+◌, ◌≤◌, ◌++◌, [], ◌∷◌, Some, option_map, IfOk, OnErr, OnOk, vec_capacity, vec_len};
 ghost use Rattle.cq_base.specs.Relations.{IsPrefix};
-ghost use Rattle.cq_server_process.specs.Answers.{TellsAnswer, TellsCommand, TellsEnd, TellsOfCommand, state, unread_as, waiting};
+ghost use Rattle.cq_frames.specs.declared.response.Response.TheVariants as responses;
+ghost use Rattle.cq_frames.specs.declared.response.TheConstants.{STREAM_ENDED};
+ghost use Rattle.cq_server_process.specs.Answers.{TellsAnswer, TellsBy, TellsCommand, TellsEnd, TellsOfCommand, process, state, unread_as, waiting};
 ghost use Rattle.cq_server_process.specs.Turns.{frames};
 
 use crate::commands::{Happened, happen};
+use crate::streams::Streams;
 use crate::turns::turns;
 use cq_base::Party;
 use cq_chain::Server;
-use cq_frames::{Command, read_command};
+use cq_frames::{Command, STREAM_ENDED, read_command, stream_of};
 use cq_process::{Links, standing};
 use cq_process_frames::{TooLong, tell_done, tell_refused, tell_unread, tell_waiting};
 use cq_wire::{ReadFault, WireFault};
@@ -64,25 +67,65 @@ fn tell_end(core: &Server, end: &mut Vec<u8>, happened: Happened)
     }
 }
 
-/// Answers a command.
+/// Answers a command that isn't late, and says whether it was refused.
+fn answer_in_time(
+    links: &mut Links,
+    core: &mut Server,
+    command: &Command,
+    out: &mut Vec<u8>,
+    end: &mut Vec<u8>,
+) -> Result<bool, TooLong>
+    requires empty { vec_len end.old ≡ 0 }
+    requires room { 64 ≤ vec_capacity end.old }
+    ensures tells { IfOk result (λ is_refused. TellsBy is_refused command.now (state links.old core.old) (state links.new core.new) out.old.items out.new.items end.new.items) }
+    ensures err { OnErr result (IsPrefix out.old.items out.new.items) }
+    ensures capacity { vec_capacity end.old ≤ vec_capacity end.new }
+{
+    match go_on(links, core, command, out) {
+        Ok(happened) => {
+            let is_refused = happened.is_err();
+            tell_end(core, end, happened);
+            Ok(is_refused)
+        }
+        Err(fault) => Err(fault),
+    }
+}
+
+/// Tells that a command comes too late: its stream has ended.
+fn tell_late(end: &mut Vec<u8>)
+    requires empty { vec_len end.old ≡ 0 }
+    requires room { 64 ≤ vec_capacity end.old }
+    ensures tells { end.new.items ≡ frames (responses.Refused STREAM_ENDED ∷ []) }
+    ensures capacity { vec_capacity end.old ≤ vec_capacity end.new }
+{
+    tell_refused(end, STREAM_ENDED);
+}
+
+/// Answers a command. An arrival is refused whose stream has ended, and one that is refused ends its stream.
 fn answer_command(
     links: &mut Links,
     core: &mut Server,
+    streams: &mut Streams,
     command: &Command,
     out: &mut Vec<u8>,
     end: &mut Vec<u8>,
 ) -> Result<(), TooLong>
     requires empty { vec_len end.old ≡ 0 }
     requires room { 64 ≤ vec_capacity end.old }
-    ensures tells { OnOk result (TellsOfCommand command.now (state links.old core.old) (state links.new core.new) out.old.items out.new.items end.new.items) }
+    ensures tells { OnOk result (TellsOfCommand command.now (process links.old core.old streams.old.ended) (process links.new core.new streams.new.ended) out.old.items out.new.items end.new.items) }
     ensures err { OnErr result (IsPrefix out.old.items out.new.items) }
     ensures capacity { vec_capacity end.old ≤ vec_capacity end.new }
 {
-    match go_on(links, core, command, out) {
-        Ok(happened) => {
-            tell_end(core, end, happened);
+    if streams.has_ended(command.stream()) {
+        tell_late(end);
+        return Ok(());
+    }
+    match answer_in_time(links, core, command, out, end) {
+        Ok(true) => {
+            streams.end(command.stream());
             Ok(())
         }
+        Ok(false) => Ok(()),
         Err(fault) => Err(fault),
     }
 }
@@ -101,24 +144,26 @@ fn tell_fault(end: &mut Vec<u8>, fault: &ReadFault)
     }
 }
 
-/// Answers the bytes of a frame.
+/// Answers the bytes of a frame. Those of an arrival that can't be read end its stream.
 fn answer_bytes(
     alloc: Global,
     links: &mut Links,
     core: &mut Server,
+    streams: &mut Streams,
     bytes: &[u8],
     out: &mut Vec<u8>,
     end: &mut Vec<u8>,
 ) -> Result<(), TooLong>
     requires empty { vec_len end.old ≡ 0 }
     requires room { 64 ≤ vec_capacity end.old }
-    ensures tells { OnOk result (TellsAnswer (Some bytes.now) (state links.old core.old) (state links.new core.new) out.old.items out.new.items end.new.items) }
+    ensures tells { OnOk result (TellsAnswer (Some bytes.now) (process links.old core.old streams.old.ended) (process links.new core.new streams.new.ended) out.old.items out.new.items end.new.items) }
     ensures err { OnErr result (IsPrefix out.old.items out.new.items) }
     ensures capacity { vec_capacity end.old ≤ vec_capacity end.new }
 {
     match read_command(alloc, bytes) {
-        Ok(command) => answer_command(links, core, &command, out, end),
+        Ok(command) => answer_command(links, core, streams, &command, out, end),
         Err(fault) => {
+            streams.end(stream_of(bytes));
             tell_fault(end, &fault);
             Ok(())
         }
@@ -130,18 +175,19 @@ pub fn answer(
     alloc: Global,
     links: &mut Links,
     core: &mut Server,
+    streams: &mut Streams,
     frame: Option<&[u8]>,
     out: &mut Vec<u8>,
     end: &mut Vec<u8>,
 ) -> Result<(), TooLong>
     requires empty { vec_len end.old ≡ 0 }
     requires room { 64 ≤ vec_capacity end.old }
-    ensures tells { OnOk result (TellsAnswer (option_map (λ bytes. bytes.now) frame.entry) (state links.old core.old) (state links.new core.new) out.old.items out.new.items end.new.items) }
+    ensures tells { OnOk result (TellsAnswer (option_map (λ bytes. bytes.now) frame.entry) (process links.old core.old streams.old.ended) (process links.new core.new streams.new.ended) out.old.items out.new.items end.new.items) }
     ensures err { OnErr result (IsPrefix out.old.items out.new.items) }
     ensures capacity { vec_capacity end.old ≤ vec_capacity end.new }
 {
     match frame {
-        Some(bytes) => answer_bytes(alloc, links, core, bytes, out, end),
+        Some(bytes) => answer_bytes(alloc, links, core, streams, bytes, out, end),
         None => {
             tell_fault(end, &ReadFault::Bad(WireFault::BadNumber));
             Ok(())

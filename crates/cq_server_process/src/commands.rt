@@ -124,7 +124,11 @@ pub fn happen(
     ensures err { OnErr result (IsPrefix out.old.items out.new.items) }
 {
     match command {
-        Command::Arrive { clock, request } => Ok(quietly(arrive_at(links, core, *clock, request))),
+        Command::Arrive {
+            stream: _,
+            clock,
+            request,
+        } => Ok(quietly(arrive_at(links, core, *clock, request))),
         Command::Ask { query } => Ok(quietly(ask_at(links, core, query))),
         Command::Take {
             from,

@@ -3,9 +3,12 @@ use crate::process::ServerProcess;
 use cq_frame_loop::{FrameHandler, Unanswered};
 
 impl FrameHandler for ServerProcess {
+    ghost use Rattle.cq_frame_loop.specs.Chains.{any_break};
     ghost use Rattle.cq_server_process.specs.Processes.{answers};
 
     ghost answers = { answers };
+
+    ghost breaks = { any_break };
 
     fn answer(
         &mut self,

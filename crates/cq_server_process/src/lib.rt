@@ -6,8 +6,10 @@ mod commands;
 mod handler;
 mod process;
 mod send;
+mod streams;
 mod turn;
 mod turns;
 
 pub use process::ServerProcess;
+pub use streams::Streams;
 pub use turn::Stop;

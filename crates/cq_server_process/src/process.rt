@@ -3,10 +3,12 @@ ghost use Rattle.std.specs.Prelude.{◌≡◌, ◌≤◌, List, option_map, vec_
 ghost use Rattle.cq_base.specs.declared.ask.Entry as rust_entry;
 ghost use Rattle.cq_base.specs.Relations.{IsPrefix};
 ghost use Rattle.cq_chain.specs.Servers.{alone, first_member, joining};
-ghost use Rattle.cq_server_process.specs.Answers.{IsNewProcess, TellsAnswer, state};
+ghost use Rattle.cq_server_process.specs.Answers.{IsNewProcess, TellsAnswer};
+ghost use Rattle.cq_server_process.specs.Processes.{process_of};
 ghost use Rattle.cq_store.specs.Stands as stores;
 
 use crate::answer::answer;
+use crate::streams::Streams;
 use cq_base::{ChainSize, NoMemory, ServerId};
 use cq_chain::Server;
 use cq_process::Links;
@@ -14,48 +16,53 @@ use cq_process_frames::TooLong;
 use cq_store::Store;
 use std::alloc::Global;
 
-/// A server of a chain, with its links to all others. It is told commands, and tells what comes of them, as frames.
+/// A server of a chain, with its links to all others, and the streams of arrivals that have ended. It is told commands, and tells what
+/// comes of them, as frames.
 #[derive(Drop)]
 pub struct ServerProcess {
     alloc: Global,
     links: Links,
     core: Server,
+    streams: Streams,
 }
 
 impl ServerProcess {
     /// The server of that number in a first chain of so many. It keeps the allocator.
     pub fn first(alloc: Global, id: ServerId, size: ChainSize) -> Result<ServerProcess, NoMemory>
         requires { id ≤ size }
-        ensures { IfOk result (λ process. IsNewProcess (first_member size id) (state process.links process.core)) }
+        ensures { IfOk result (λ process. IsNewProcess (first_member size id) (process_of process)) }
     {
         let core = Server::first(alloc, id, size)?;
         Ok(ServerProcess {
             alloc,
             links: Links::new(alloc),
             core,
+            streams: Streams::new(),
         })
     }
 
     /// The server of that number, which joins a chain later. It keeps the allocator.
     pub fn joining(alloc: Global, id: ServerId) -> Result<ServerProcess, NoMemory>
-        ensures { IfOk result (λ process. IsNewProcess joining (state process.links process.core)) }
+        ensures { IfOk result (λ process. IsNewProcess joining (process_of process)) }
     {
         let core = Server::joining(alloc, id)?;
         Ok(ServerProcess {
             alloc,
             links: Links::new(alloc),
             core,
+            streams: Streams::new(),
         })
     }
 
     /// The server of a chain of one, at rest, whose store that is. It keeps the allocator. O(1).
     pub fn alone(alloc: Global, store: Store) -> ServerProcess
-        ensures { (entries : List rust_entry.Entry) → stores.StandsFor store entries → IsNewProcess (alone entries) (state result.links result.core) }
+        ensures { (entries : List rust_entry.Entry) → stores.StandsFor store entries → IsNewProcess (alone entries) (process_of result) }
     {
         ServerProcess {
             alloc,
             links: Links::new(alloc),
             core: Server::alone(alloc, store),
+            streams: Streams::new(),
         }
     }
 
@@ -79,10 +86,18 @@ impl ServerProcess {
     ) -> Result<(), TooLong>
         requires empty { vec_len end.old ≡ 0 }
         requires room { 64 ≤ vec_capacity end.old }
-        ensures tells { OnOk result (TellsAnswer (option_map (λ bytes. bytes.now) frame.entry) (state self.old.links self.old.core) (state self.new.links self.new.core) out.old.items out.new.items end.new.items) }
+        ensures tells { OnOk result (TellsAnswer (option_map (λ bytes. bytes.now) frame.entry) (process_of self.old) (process_of self.new) out.old.items out.new.items end.new.items) }
         ensures err { OnErr result (IsPrefix out.old.items out.new.items) }
         ensures capacity { vec_capacity end.old ≤ vec_capacity end.new }
     {
-        answer(self.alloc, &mut self.links, &mut self.core, frame, out, end)
+        answer(
+            self.alloc,
+            &mut self.links,
+            &mut self.core,
+            &mut self.streams,
+            frame,
+            out,
+            end,
+        )
     }
 }

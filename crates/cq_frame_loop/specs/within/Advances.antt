@@ -3,7 +3,7 @@ use Rattle.std.specs.Prelude.{◌≡◌, ℕ, ◌+◌, ◌-◌, ◌≤◌, ◌<�
 use Rattle.cq_base.specs.Relations.{IsPrefix}
 use Rattle.cq_frames.specs.declared.frame.TheConstants.{FRAME_LIMIT}
 use Rattle.cq_frame_loop.specs.Cutting.{frames_behind}
-use Rattle.cq_frame_loop.specs.Chains.{Relation, Step, IsChain, AnswersFront, BreaksOff, frames_in, text_in}
+use Rattle.cq_frame_loop.specs.Chains.{Relation, Breaks, Step, IsChain, AnswersFront, BreaksOff, frames_in, text_in}
 use Rattle.cq_frame_loop.specs.declared.fault.LoopFault.{LoopFault}
 use Rattle.cq_frame_loop.specs.declared.fault.LoopFault.TheVariants.{NoMemory, ReadFailed, WriteFailed, Unanswered, Interrupted, TooManyBytes}
 
@@ -28,23 +28,23 @@ abbrev pub StopsAt : {S : Type 0} → Relation S → S → Option (List ℕ) →
 StopsAt {S} answers first frame told output =
     (steps : List (Step S)) × (last : S) × IsChain answers first steps last × IsPrefix (frames_in steps) (frame ∷ []) × IsPrefix output (told ++ text_in steps)
 
--- how a frame comes to a fault
-abbrev pub FailsAt : {S : Type 0} → Relation S → LoopFault → S → Option (List ℕ) → List ℕ → List ℕ → Type 0
-FailsAt answers NoMemory first frame told output = ⊥
-FailsAt answers ReadFailed first frame told output = ⊥
-FailsAt answers WriteFailed first frame told output = StopsAt answers first frame told output
-FailsAt answers Unanswered first frame told output = output ≡ told
-FailsAt answers Interrupted first frame told output = StopsAt answers first frame told output
-FailsAt answers TooManyBytes first frame told output = ⊥
+-- how a frame comes to a fault, and what becomes of the state where it can't be answered
+abbrev pub FailsAt : {S : Type 0} → Relation S → Breaks S → LoopFault → S → Option (List ℕ) → List ℕ → List ℕ → S → Type 0
+FailsAt answers breaks NoMemory first frame told output last = ⊥
+FailsAt answers breaks ReadFailed first frame told output last = ⊥
+FailsAt answers breaks WriteFailed first frame told output last = StopsAt answers first frame told output
+FailsAt answers breaks Unanswered first frame told output last = (output ≡ told) × breaks first frame last
+FailsAt answers breaks Interrupted first frame told output last = StopsAt answers first frame told output
+FailsAt answers breaks TooManyBytes first frame told output last = ⊥
 
 -- how frames come to a fault
-abbrev pub FailsIn : {S : Type 0} → Relation S → LoopFault → S → List (Option (List ℕ)) → List ℕ → Type 0
-FailsIn answers NoMemory first frames output = ⊥
-FailsIn answers ReadFailed first frames output = ⊥
-FailsIn answers WriteFailed first frames output = AnswersFront answers first frames output
-FailsIn answers Unanswered first frames output = BreaksOff answers first frames output
-FailsIn answers Interrupted first frames output = AnswersFront answers first frames output
-FailsIn answers TooManyBytes first frames output = ⊥
+abbrev pub FailsIn : {S : Type 0} → Relation S → Breaks S → LoopFault → S → List (Option (List ℕ)) → List ℕ → S → Type 0
+FailsIn answers breaks NoMemory first frames output last = ⊥
+FailsIn answers breaks ReadFailed first frames output last = ⊥
+FailsIn answers breaks WriteFailed first frames output last = AnswersFront answers first frames output
+FailsIn answers breaks Unanswered first frames output last = (off : BreaksOff answers first frames output) × breaks off.last off.unanswered last
+FailsIn answers breaks Interrupted first frames output last = AnswersFront answers first frames output
+FailsIn answers breaks TooManyBytes first frames output last = ⊥
 
 -- The frames of these bytes were answered up to the last so many of them, which are an unfinished frame.
 pub record AdvancesTo {S : Type 0} (answers : Relation S) (first : S) (count : ℕ) (bytes : List ℕ) (told : List ℕ) (last : S) (later : ℕ) (left : ℕ) : Type 0 where

@@ -142,6 +142,7 @@ impl MasterProcess {
             Command::More { to: _ } => Ok(()),
             Command::Gone { server } => self.forget(*server),
             Command::Arrive {
+                stream: _,
                 clock: _,
                 request: _,
             } => Err(NOT_HERE),

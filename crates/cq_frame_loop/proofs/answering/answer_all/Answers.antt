@@ -10,5 +10,5 @@ returns-in-Err-write_told-clause-fails g c =
     let took = c.in-Err-write_told.ensures.takes in (
       told.0 ++ took.0,
       Appends-trans _ _ _ told.0 took.0 told.1 took.1,
-      fails_at_writing g.H.FrameHandler.answers c.in-Err-write_told.fault c.args.handler.now c.answer_each.new.handler c.args.count c.in-Ok.left.1 c.args.bytes.now told.0 c.answer_each.new.out.items _ took.0 [] told.2.advances took.2,
+      fails_at_writing g.H.FrameHandler.answers g.H.FrameHandler.breaks c.in-Err-write_told.fault c.args.handler.now c.answer_each.new.handler c.answer_each.new.handler c.args.count c.in-Ok.left.1 c.args.bytes.now told.0 c.answer_each.new.out.items _ took.0 [] told.2.advances took.2,
     )

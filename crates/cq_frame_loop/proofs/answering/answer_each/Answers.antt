@@ -39,7 +39,7 @@ returns-in_err-answer_frame-clause-fails g c =
     rw (fault.1, fault.2) (
       before.0 ++ failed.0,
       Appends-trans _ _ _ before.0 failed.0 before.1 failed.1,
-      fails_at_frame g.H.FrameHandler.answers c.in_err-answer_frame.field-0.0 c.args.handler.now c.loop-frame.handler c.args.count c.in-Some.size c.args.bytes.now before.0 c.loop-frame.out.items rest failed.0 frame now c.in-Some.ensures.begins failed.2,
+      fails_at_frame g.H.FrameHandler.answers g.H.FrameHandler.breaks c.in_err-answer_frame.field-0.0 c.args.handler.now c.loop-frame.handler c.answer_frame.new.handler c.args.count c.in-Some.size c.args.bytes.now before.0 c.loop-frame.out.items rest failed.0 frame now c.in-Some.ensures.begins failed.2,
     )
 
 pub loop-frame-preserved : goal.loop-frame-preserved

@@ -45,17 +45,17 @@ returns-in_err-left-in-Ok-clause-answers g c =
     let failed = c.in_err-left-in-Ok.ensures.fails in
     let is = grown c.loop.len c.in-Ok.count c.loop.buffer c.read_behind.new.buffer c.read_behind.ensures.front in
     let one = c.in_err-left-in-Ok.field-0.0 in
-    let behind = subst (λ xs. FailsIn g.H.FrameHandler.answers one c.loop.handler (frames_behind c.loop.passed xs) failed.0) is failed.2 in
+    let behind = subst (λ xs. FailsIn g.H.FrameHandler.answers g.H.FrameHandler.breaks one c.loop.handler (frames_behind c.loop.passed xs) failed.0 c.answer_buffer.new.handler) is failed.2 in
     let fault = err_from_is_err_and c.from_residual.result c.from_residual.ensures.1 in
     rw (fault.1, fault.2) (
       read.0 ++ chunk,
       read.1 ++ failed.0,
       Consumes-trans _ _ _ read.0 chunk read.2 c.in-Ok.ensures.bytes.0,
       Appends-trans _ _ _ read.1 failed.0 read.3 failed.1,
-      fails g.H.FrameHandler.answers one c.args.handler.now c.answer_buffer.new.handler (read.0 ++ chunk) (read.1 ++ failed.0) _
-          (fails_behind g.H.FrameHandler.answers one c.args.handler.now c.loop.handler 0 c.loop.passed (read.0 ++ chunk) read.1 (unread ++ chunk) failed.0
+      fails g.H.FrameHandler.answers g.H.FrameHandler.breaks one c.args.handler.now c.answer_buffer.new.handler (read.0 ++ chunk) (read.1 ++ failed.0) _
+          (fails_behind g.H.FrameHandler.answers g.H.FrameHandler.breaks one c.args.handler.now c.loop.handler c.answer_buffer.new.handler 0 c.loop.passed (read.0 ++ chunk) read.1 (unread ++ chunk) failed.0
           (with_more g.H.FrameHandler.answers c.args.handler.now c.loop.handler 0 c.loop.passed read.0 read.1 unread chunk read.4) behind),
-      fails_leaves g.H.FrameHandler.answers one c.loop.handler (frames_behind c.loop.passed (take (c.loop.len + c.in-Ok.count) c.read_behind.new.buffer)) (read.0 ++ chunk) failed.0 _ _ failed.2 c.in_err-left-in-Ok.ensures.leaves,
+      fails_leaves g.H.FrameHandler.answers g.H.FrameHandler.breaks one c.loop.handler c.answer_buffer.new.handler (frames_behind c.loop.passed (take (c.loop.len + c.in-Ok.count) c.read_behind.new.buffer)) (read.0 ++ chunk) failed.0 _ _ failed.2 c.in_err-left-in-Ok.ensures.leaves,
     )
 
 pub returns-then-failed-clause-answers : goal.returns-then-failed-clause-answers
@@ -74,7 +74,7 @@ pub returns-in_err-left-in-Ok-clause-reader : goal.returns-in_err-left-in-Ok-cla
 returns-in_err-left-in-Ok-clause-reader g c =
     let failed = c.in_err-left-in-Ok.ensures.fails in
     let fault = err_from_is_err_and c.from_residual.result c.from_residual.ensures.1 in
-    rw (fault.1, fault.2) (fails_unread g.H.FrameHandler.answers c.in_err-left-in-Ok.field-0.0 c.loop.handler (frames_behind c.loop.passed (take (c.loop.len + c.in-Ok.count) c.read_behind.new.buffer)) failed.0 _ failed.2)
+    rw (fault.1, fault.2) (fails_unread g.H.FrameHandler.answers g.H.FrameHandler.breaks c.in_err-left-in-Ok.field-0.0 c.loop.handler c.answer_buffer.new.handler (frames_behind c.loop.passed (take (c.loop.len + c.in-Ok.count) c.read_behind.new.buffer)) failed.0 _ failed.2)
 
 pub returns-in-Ok-eq0-clause-answers : goal.returns-in-Ok-eq0-clause-answers
 returns-in-Ok-eq0-clause-answers g c =
@@ -88,7 +88,7 @@ returns-in-Ok-eq0-clause-answers g c =
       read.1,
       input,
       Appends-kept _ _ _ read.1 read.3 c.flush_all.ensures.kept,
-      ends g.H.FrameHandler.answers c.flush_all.result c.args.handler.now c.loop.handler read.0 read.1 _ c.flush_all.ensures.kind end all,
+      ends g.H.FrameHandler.answers g.H.FrameHandler.breaks c.flush_all.result c.args.handler.now c.loop.handler read.0 read.1 _ c.flush_all.ensures.kind end all,
       ends_leaves c.flush_all.result read.0 _ _ c.flush_all.ensures.kind c.flush_all.ensures.leaves c.flush_all.ensures.sound c.flush_all.ensures.flushed,
     )
 
@@ -105,7 +105,7 @@ returns-in-Err-clause-answers g c =
       read.1,
       Consumes-kept _ _ _ read.0 read.2 c.in-Err.ensures.bytes,
       read.3,
-      read_fails g.H.FrameHandler.answers c.read_fault.result c.args.handler.now c.loop.handler read.0 read.1 _ _ c.read_fault.ensures all,
+      read_fails g.H.FrameHandler.answers g.H.FrameHandler.breaks c.read_fault.result c.args.handler.now c.loop.handler read.0 read.1 _ _ c.read_fault.ensures all,
       read_leaves c.read_fault.result read.0 _ _ _ c.read_fault.ensures read.11,
     )
 

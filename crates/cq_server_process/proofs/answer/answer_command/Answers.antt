@@ -1,8 +1,10 @@
--- The end comes behind what was put.
-use Rattle.cq_server_process.specs.Answers.{state}
-use Rattle.cq_server_process.proofs.Answering.{ended-told}
+-- A command that is late, and one that isn't.
+use Rattle.std.proofs.Common.{◌∙◌, ap, sym}
+use Rattle.cq_server_process.specs.Answers.{has_ended, process}
+use Rattle.cq_server_process.proofs.Answering.{late-told}
 use Rattle.cq_server_process.proofs.answer.answer_command.Goals as goal
 
-pub returns-in-Ok-clause-tells : goal.returns-in-Ok-clause-tells
-returns-in-Ok-clause-tells c =
-    ended-told c.args.command.now (state c.args.links.now c.args.core.now) (state c.go_on.new.links c.go_on.new.core) c.in-Ok.happened c.args.out.now.items c.go_on.new.out.items c.tell_end.new.end.items c.in-Ok.ensures.tells c.tell_end.ensures.tells
+pub returns-then-has_ended-clause-tells : goal.returns-then-has_ended-clause-tells
+returns-then-has_ended-clause-tells c =
+    late-told c.args.command.now (process c.args.links.now c.args.core.now c.args.streams.now.ended) c.args.out.now.items c.tell_late.new.end.items
+    (sym (c.has_ended.ensures ∙ ap (has_ended c.args.streams.now.ended) c.stream.ensures) ∙ c.if-has_ended.true) c.tell_late.ensures.tells
