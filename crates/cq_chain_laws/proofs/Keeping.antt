@@ -5,7 +5,7 @@ use Rattle.cq_base.specs.Relations.{IsPrefix}
 use Rattle.cq_chain.specs.Servers.{Server}
 use Rattle.cq_frame_loop.specs.declared.fault.LoopFault.{LoopFault}
 use Rattle.cq_frame_loop.specs.declared.fault.LoopFault.TheVariants.{NoMemory, ReadFailed, WriteFailed, Unanswered, Interrupted, TooManyBytes}
-use Rattle.cq_frame_loop.specs.Chains.{AnswersAll, AnswersFront, BreaksOff, IsChain, Relation, Step, frames_in, text_in}
+use Rattle.cq_frame_loop.specs.Chains.{AnswersAll, AnswersFront, Breaks, BreaksOff, IsChain, Relation, Step, any_break, frames_in, text_in}
 use Rattle.cq_frame_loop.specs.Cutting.{frames_of}
 use Rattle.cq_frame_loop.specs.Loops.{AnswersInput}
 use Rattle.cq_master_process.specs.declared.process.MasterProcess.{MasterProcess}
@@ -20,7 +20,8 @@ use Rattle.cq_server_copies.specs.declared.saving.SavingProcess.{SavingProcess}
 use Rattle.cq_server_copies.specs.Loading as loading
 use Rattle.cq_server_copies.specs.Saving as saving
 use Rattle.cq_store_wire.specs.declared.build.State.TheVariants as states
-use Rattle.cq_server_process.specs.Answers.{IsNewProcess, state}
+use Rattle.cq_server_process.specs.Answers.{IsNewProcess}
+use Rattle.cq_server_process.specs.Processes.{process_of}
 use Rattle.cq_chain_laws.specs.Kept.{IsKeptLoaded, IsKeptMaster, IsKeptServer, NeverBegan}
 use Rattle.cq_chain_laws.specs.Laws.{KeptProcessesAreRuns}
 use Rattle.cq_chain_laws.specs.Serving.{answered as answered_steps}
@@ -61,19 +62,19 @@ broken-answered answers first input output h = record {
   written = same-prefix output (text_in h.steps) (sym h.whole);
 }
 
-answered : {S : Type 0} (answers : Relation S) (result : Result (Unit {0}) LoopFault) (first last : S) (input : List ℕ) (left : Option (List ℕ)) (output : List ℕ) → AnswersInput answers result first last input left output
+answered : {S : Type 0} (answers : Relation S) (breaks : Breaks S) (result : Result (Unit {0}) LoopFault) (first last : S) (input : List ℕ) (left : Option (List ℕ)) (output : List ℕ) → AnswersInput answers breaks result first last input left output
     → NeverBegan input output ⊎ Answered answers first input output
-answered answers (Ok u) first last input left output h = inr (all-answered answers first last input output h.1)
-answered answers (Err NoMemory) first last input left output h = inl (h.0, h.1.0)
-answered answers (Err ReadFailed) first last input left output h = inr (all-answered answers first last input output h)
-answered answers (Err WriteFailed) first last input left output h = inr (front-answered answers first input output h)
-answered answers (Err Unanswered) first last input left output h = inr (broken-answered answers first input output h)
-answered answers (Err Interrupted) first last input left output h = inr (front-answered answers first input output h)
-answered answers (Err TooManyBytes) first last input left output h = inr (all-answered answers first last input output h.1)
+answered answers breaks (Ok u) first last input left output h = inr (all-answered answers first last input output h.1)
+answered answers breaks (Err NoMemory) first last input left output h = inl (h.0, h.1.0)
+answered answers breaks (Err ReadFailed) first last input left output h = inr (all-answered answers first last input output h)
+answered answers breaks (Err WriteFailed) first last input left output h = inr (front-answered answers first input output h)
+answered answers breaks (Err Unanswered) first last input left output h = inr (broken-answered answers first input output h.0)
+answered answers breaks (Err Interrupted) first last input left output h = inr (front-answered answers first input output h)
+answered answers breaks (Err TooManyBytes) first last input left output h = inr (all-answered answers first last input output h.1)
 
 -- ---- of each kind
 
-kept-server : (s : Server) (first : SavingProcess) (input output : List ℕ) → IsNewProcess s (state first.process.links first.process.core) → Answered saving.Answers first input output → IsKeptServer s input output
+kept-server : (s : Server) (first : SavingProcess) (input output : List ℕ) → IsNewProcess s (process_of first.process) → Answered saving.Answers first input output → IsKeptServer s input output
 kept-server s first input output new h = record {
   steps = h.steps;
   front = h.front;
@@ -99,20 +100,20 @@ kept-master size first input output new h = record {
 
 servers-kept : (s : Server) (result : Result (Unit {0}) LoopFault) (input : List ℕ) (left : Option (List ℕ)) (output : List ℕ) → KeepsServer s result input left output → NeverBegan input output ⊎ IsKeptServer s input output
 servers-kept s result input left output (inr none) = inl none.1
-servers-kept s result input left output (inl h) = elim (answered saving.Answers result h.first h.last input left output h.answered) [
+servers-kept s result input left output (inl h) = elim (answered saving.Answers any_break result h.first h.last input left output h.answered) [
   | inl none ↦ inl none
   | inr some ↦ inr (kept-server s h.first input output h.new some)
 ]
 
 masters-kept : (size : ℕ) (result : Result (Unit {0}) LoopFault) (input : List ℕ) (left : Option (List ℕ)) (output : List ℕ) → KeepsMaster size result input left output → NeverBegan input output ⊎ IsKeptMaster size input output
 masters-kept size result input left output (inr none) = inl none.1
-masters-kept size result input left output (inl h) = elim (answered master.Answers result h.first h.last input left output h.answered) [
+masters-kept size result input left output (inl h) = elim (answered master.Answers any_break result h.first h.last input left output h.answered) [
   | inl none ↦ inl none
   | inr some ↦ inr (kept-master size h.first input output h.new some)
 ]
 
 loaded-kept : (result : Result (Unit {0}) LoadEnd) (input : List ℕ) (left : Option (List ℕ)) (output : List ℕ) → AnswersLoading result input left output → NeverBegan input output ⊎ IsKeptLoaded input output
-loaded-kept result input left output h = elim (answered loading.Answers (loop_of result) h.first h.last input left output h.answered) [
+loaded-kept result input left output h = elim (answered loading.Answers loading.Breaks (loop_of result) h.first h.last input left output h.answered) [
   | inl none ↦ inl none
   | inr some ↦ inr (kept-loaded h.first input output h.new some)
 ]

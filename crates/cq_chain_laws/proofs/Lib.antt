@@ -5,4 +5,5 @@ pub mod MasterRuns
 pub mod Crashing
 pub mod Linking
 pub mod Serving
+pub mod Copies
 pub mod Keeping

@@ -32,7 +32,7 @@ use Rattle.cq_chain_laws.proofs.Putting.{Left, all-left, left-gone, left-none, l
 
 -- it puts nothing
 first-puts : (to : Party) (p : MasterProcess) (command : Command) (q : MasterProcess) (h : Does p command q) → put_to to (first_of p command q h) ≡ []
-first-puts to p (commands.Arrive clock request) q h = refl
+first-puts to p (commands.Arrive stream clock request) q h = refl
 first-puts to p (commands.Ask query) q h = refl
 first-puts to p (commands.Take parties.Master number piece) q h = refl
 first-puts to p (commands.Take parties.Clients number piece) q h = refl
@@ -45,7 +45,7 @@ first-puts to p commands.Save q h = refl
 first-puts to p (commands.Load chunk) q h = refl
 
 first-put-of : (p : MasterProcess) (command : Command) (q : MasterProcess) → Does p command q → put_of q.links ≡ put_of p.links
-first-put-of p (commands.Arrive clock request) q h = absurd h
+first-put-of p (commands.Arrive stream clock request) q h = absurd h
 first-put-of p (commands.Ask query) q h = absurd h
 first-put-of p (commands.Take parties.Master number piece) q h = absurd h
 first-put-of p (commands.Take parties.Clients number piece) q h = absurd h
@@ -68,7 +68,7 @@ one-gone p q server id is here = go (server == id) (sym (ap (λ (f : ℕ → Boo
   go false e = e
 
 first-gone : (p : MasterProcess) (command : Command) (q : MasterProcess) (id : ℕ) → Does p command q → gone_of q.links id ≡ false → gone_of p.links id ≡ false
-first-gone p (commands.Arrive clock request) q id h here = absurd h
+first-gone p (commands.Arrive stream clock request) q id h here = absurd h
 first-gone p (commands.Ask query) q id h here = absurd h
 first-gone p (commands.Take parties.Master number piece) q id h here = absurd h
 first-gone p (commands.Take parties.Clients number piece) q id h here = absurd h
@@ -177,7 +177,7 @@ module _ (from : ℕ) where
   -- what a command is by itself
   taken-first : (p : MasterProcess) (command : Command) (q : MasterProcess) (h : Does p command q) (messages : List Message) (came : List Numbered) → TakenAt p messages came
       → TakenAt q (messages ++ taken_from (parties.Server from) (first_of p command q h)) (came ++ brought_by (parties.Server from) None (Ok command))
-  taken-first p (commands.Arrive clock request) q h messages came taken = absurd h
+  taken-first p (commands.Arrive stream clock request) q h messages came taken = absurd h
   taken-first p (commands.Ask query) q h messages came taken = absurd h
   taken-first p (commands.Take parties.Master number piece) q h messages came taken = absurd h
   taken-first p (commands.Take parties.Clients number piece) q h messages came taken = absurd h
@@ -214,7 +214,7 @@ module _ (from : ℕ) where
 
 -- it takes nothing from anybody else
 first-servers : (p : MasterProcess) (command : Command) (q : MasterProcess) (h : Does p command q) → (taken_from parties.Master (first_of p command q h) ≡ []) × (taken_from parties.Clients (first_of p command q h) ≡ [])
-first-servers p (commands.Arrive clock request) q h = (refl, refl)
+first-servers p (commands.Arrive stream clock request) q h = (refl, refl)
 first-servers p (commands.Ask query) q h = (refl, refl)
 first-servers p (commands.Take parties.Master number piece) q h = (refl, refl)
 first-servers p (commands.Take parties.Clients number piece) q h = (refl, refl)

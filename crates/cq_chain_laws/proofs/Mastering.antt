@@ -81,7 +81,7 @@ behind-frames (Some id) = ap (λ t. frame (responses.Waiting (parties.Server id)
 
 -- what a command is by itself
 abbrev pub first_of : (p : MasterProcess) (command : Command) (q : MasterProcess) → Does p command q → List Action
-first_of p (commands.Arrive clock request) q h = []
+first_of p (commands.Arrive stream clock request) q h = []
 first_of p (commands.Ask query) q h = []
 first_of p (commands.Take parties.Master number piece) q h = []
 first_of p (commands.Take parties.Clients number piece) q h = []
@@ -97,7 +97,7 @@ one-act : (d : Action) (a b : CoreState rust_master.Master) → ActsMaster d a b
 one-act d a b h = (b, h, λ m outbox i. i)
 
 first-acts : (p : MasterProcess) (command : Command) (q : MasterProcess) (h : Does p command q) → ActsAll (first_of p command q h) p.core q.core
-first-acts p (commands.Arrive clock request) q h = absurd h
+first-acts p (commands.Arrive stream clock request) q h = absurd h
 first-acts p (commands.Ask query) q h = absurd h
 first-acts p (commands.Take parties.Master number piece) q h = absurd h
 first-acts p (commands.Take parties.Clients number piece) q h = absurd h

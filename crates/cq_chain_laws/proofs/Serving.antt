@@ -30,7 +30,7 @@ is_copy None is = absurd (false≢true is)
 is_copy (Some bytes) is = ap Some (same_text bytes (whole command commands.Save) (sym is))
 
 -- and no other is
-no_copy : (frame : Option (List ℕ)) → asks_copy frame ≡ false → saving.IsSave frame → ⊥
+pub no_copy : (frame : Option (List ℕ)) → asks_copy frame ≡ false → saving.IsSave frame → ⊥
 unfolding whole command
 no_copy frame other is = false≢true (sym other ∙ ap asks_copy is ∙ refl)
 
@@ -81,7 +81,7 @@ Leaves stage text = ((next : State) × (stage ≡ stages.Loading next)) ⊎ ((re
 leaves_command : (command : Command) (reader : State) (stage : Stage) (text : List ℕ) → loading.LoadsCommand command reader stage text → Leaves stage text
 leaves_command (commands.Load []) reader stage text h = inr (reader, h)
 leaves_command (commands.Load (byte ∷ bytes)) reader stage text h = inl (h.next, h.is)
-leaves_command (commands.Arrive clock request) reader stage text h = inl (reader, h.0)
+leaves_command (commands.Arrive stream clock request) reader stage text h = inl (reader, h.0)
 leaves_command (commands.Ask query) reader stage text h = inl (reader, h.0)
 leaves_command (commands.Take from number piece) reader stage text h = inl (reader, h.0)
 leaves_command (commands.Detect server) reader stage text h = inl (reader, h.0)

@@ -1,4 +1,5 @@
 //! Laws of the processes of a chain. A function here does nothing: its contract is a law, which is proved with it.
+ghost use Rattle.cq_chain_laws.specs.Copies.{CopiesAreLoaded};
 ghost use Rattle.cq_chain_laws.specs.Laws.{KeptProcessesAreRuns, LinkedProcessesAreAChain, LoggedProcessesAreAChain, MasterRunsAreActions};
 
 /// What a new process of a master does of frames, one after another, are actions of its core from the first one on. The messages that it
@@ -25,4 +26,11 @@ pub fn linked_processes_are_a_chain()
 /// the law of linked processes speaks of what is read and written, whatever ended it.
 pub fn kept_processes_are_runs()
     ensures { KeptProcessesAreRuns }
+{}
+
+/// The chunks that a process tells as a copy of its store, from the first one to the empty one, make a process that begins with a store,
+/// and that is given them in their order, begin with that store: so it begins where the world does that begins with the entries for which
+/// the store stands.
+pub fn copies_are_loaded()
+    ensures { CopiesAreLoaded }
 {}

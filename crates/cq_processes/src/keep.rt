@@ -1,11 +1,14 @@
 //! Keeping one server of a chain, or its master.
-ghost use Rattle.std.specs.Prelude.{◌≡◌, ◌≤◌, ℕ, List, Err, IfOk};
+ghost use Rattle.std.specs.Prelude.{◌≡◌, ◌≤◌, ℕ, List, Err, IfOk, true, false};
 ghost use Rattle.std.specs.Io.KnownBytes.{Appends, Consumes};
 ghost use Rattle.cq_chain.specs.Servers as states;
 ghost use Rattle.cq_chain.specs.Servers.{first_member, joining};
 ghost use Rattle.cq_frame_loop.specs.Loops.{LeavesReader, LeavesWriter};
+ghost use Rattle.cq_frame_loop.specs.declared.fault.LoopFault.TheVariants.{Unanswered};
+ghost use Rattle.cq_processes.specs.declared.keep.LoadEnd.TheVariants as ends;
 ghost use Rattle.cq_processes.specs.Keeping.{AnswersLoading, KeepsMaster, KeepsServer, LeavesLoader, LeavesLoading, loop_of};
-ghost use Rattle.cq_server_process.specs.Answers.{IsNewProcess, state};
+ghost use Rattle.cq_server_process.specs.Answers.{IsNewProcess};
+ghost use Rattle.cq_server_process.specs.Processes.{process_of};
 
 use cq_base::{ChainSize, NoMemory, ServerId};
 use cq_frame_loop::{LoopFault, answer_frames};
@@ -31,7 +34,7 @@ fn keep_server<R: Source, W: Sink>(
     reader: &mut R,
     writer: &mut W,
 ) -> Result<(), LoopFault>
-    ensures keeps { (s : states.Server) → IfOk process (λ p. IsNewProcess s (state p.links p.core)) → (input : List ℕ) × (output : List ℕ)
+    ensures keeps { (s : states.Server) → IfOk process (λ p. IsNewProcess s (process_of p)) → (input : List ℕ) × (output : List ℕ)
         × Consumes (R.remaining reader.old) (R.remaining reader.new) input
         × Appends (W.contents writer.old) (W.contents writer.new) output
         × KeepsServer s result input (R.remaining reader.new) output
@@ -107,7 +110,9 @@ pub fn keep_master<R: Source, W: Sink>(
 
 /// Why a process that begins with a store ended, by the fault of its loop.
 fn end_of(fault: LoopFault, has_failed: bool) -> LoadEnd
-    ensures { loop_of (Err result) ≡ Err fault }
+    ensures fault { loop_of (Err result) ≡ Err fault }
+    ensures not_loaded { result ≡ ends.NotLoaded → has_failed ≡ true }
+    ensures unanswered { result ≡ ends.Loop Unanswered → has_failed ≡ false }
 {
     match fault {
         LoopFault::Unanswered => {

@@ -14,7 +14,8 @@ use Rattle.cq_server_copies.specs.declared.loading.Stage.{Stage}
 use Rattle.cq_server_copies.specs.declared.loading.Stage.TheVariants as stages
 use Rattle.cq_server_copies.specs.declared.saving.SavingProcess.{SavingProcess}
 use Rattle.cq_server_copies.specs.Saving as saving
-use Rattle.cq_server_process.specs.Answers.{IsNewProcess, StandsSo, state}
+use Rattle.cq_server_process.specs.Answers.{IsNewProcess, StandsSo}
+use Rattle.cq_server_process.specs.Processes.{process_of}
 use Rattle.cq_store.specs.Stands as stores
 use Rattle.cq_store_wire.specs.declared.build.State.{State}
 use Rattle.cq_store_wire.specs.Building.{fed, store_of}
@@ -38,7 +39,7 @@ pub record IsLoaded (reader : State) (stage : Stage) (text : List ℕ) : Type 0 
   pub process : SavingProcess
   pub is : stage ≡ stages.Serving process
   pub copy : process.copy ≡ None
-  pub new : (entries : List Entry) → stores.StandsFor kept entries → IsNewProcess (alone entries) (state process.process.links process.process.core)
+  pub new : (entries : List Entry) → stores.StandsFor kept entries → IsNewProcess (alone entries) (process_of process.process)
   pub standing : Standing
   pub stands : StandsSo process.process.core standing
   pub told : text ≡ frame (responses.Done standing)
@@ -61,7 +62,7 @@ IsRefusedYet reader stage text = (stage ≡ stages.Loading reader) × (text ≡ 
 -- all but chunks are refused
 abbrev pub LoadsCommand : Command → State → Stage → List ℕ → Type 0
 LoadsCommand (commands.Load chunk) reader stage text = LoadsChunk chunk reader stage text
-LoadsCommand (commands.Arrive clock request) reader stage text = IsRefusedYet reader stage text
+LoadsCommand (commands.Arrive stream clock request) reader stage text = IsRefusedYet reader stage text
 LoadsCommand (commands.Ask query) reader stage text = IsRefusedYet reader stage text
 LoadsCommand (commands.Take from number piece) reader stage text = IsRefusedYet reader stage text
 LoadsCommand (commands.Detect server) reader stage text = IsRefusedYet reader stage text
@@ -96,6 +97,10 @@ AnswersAt stages.Failed frame text stage = ⊥
 
 abbrev pub Answers : LoadingProcess → Option (List ℕ) → List ℕ → LoadingProcess → Type 0
 Answers p frame text q = AnswersAt p.stage frame text q.stage
+
+-- Where a frame can't be answered while no server stands on the store, none ever does; and one that stands on it goes on to.
+abbrev pub Breaks : LoadingProcess → Option (List ℕ) → LoadingProcess → Type 0
+Breaks p frame q = (is_serving p.stage ≡ false → q.stage ≡ stages.Failed) × (is_serving p.stage ≡ true → is_serving q.stage ≡ true)
 
 -- ---- and the bytes
 

@@ -22,15 +22,20 @@ use Rattle.cq_store.specs.Stands as stores
 use Rattle.cq_store_wire.specs.declared.part.Part.{Part}
 use Rattle.cq_store_wire.specs.declared.writer.Place.TheVariants as places
 use Rattle.cq_store_wire.specs.Chunks.{IsChunk}
+use Rattle.cq_store_wire.specs.Laws.{IsStore}
 use Rattle.cq_store_wire.specs.Order.{parts_from}
 use Rattle.cq_wire.specs.Layout.{whole}
 
--- The copy stands for these entries, and nothing of it is told.
+-- Nothing of the copy is told, and its store is one.
+pub record IsUntold (copy : StoreCopy) : Type 0 where
+  pub start : copy.writer.place ≡ places.Start
+  pub bodies : copy.writer.bodies ≡ []
+  pub sound : IsStore copy.store
+
+-- It stands for these entries.
 pub record IsCopyOf (entries : List Entry) (copy : StoreCopy) : Type 0 where
   pub stands : stores.StandsFor copy.store entries
   pub count : copy.count ≡ length entries
-  pub start : copy.writer.place ≡ places.Start
-  pub bodies : copy.writer.bodies ≡ []
 
 -- what of the copy isn't told yet
 abbrev pub parts_left : StoreCopy → List Part
@@ -47,7 +52,7 @@ pub record IsNextChunk (before after : StoreCopy) (chunk : List ℕ) : Type 0 wh
 
 -- the copy of which something is told: the one that was there, or a new one of what the server stands for
 abbrev pub Begins : rust_server.Server → Option StoreCopy → StoreCopy → Type 0
-Begins core None copy = (s : states.Server) (outbox : Party → List messages.Message) → servers.StandsFor core s outbox → IsCopyOf s.entries copy
+Begins core None copy = IsUntold copy × ((s : states.Server) (outbox : Party → List messages.Message) → servers.StandsFor core s outbox → IsCopyOf s.entries copy)
 Begins core (Some before) copy = copy ≡ before
 
 -- the copy behind a chunk: it is let go behind the empty one

@@ -4,12 +4,12 @@ ghost use Rattle.cq_base.specs.declared.party.Party as rust_party;
 ghost use Rattle.cq_chain.specs.Messages as sent;
 ghost use Rattle.cq_chain.specs.Servers as states;
 ghost use Rattle.cq_chain.specs.Stands.{StandsFor};
-ghost use Rattle.cq_server_copies.specs.Saving.{IsCopyOf, IsNextChunk};
+ghost use Rattle.cq_server_copies.specs.Saving.{IsCopyOf, IsNextChunk, IsUntold};
 
 use cq_base::NoMemory;
 use cq_chain::Server;
 use cq_store::Store;
-use cq_store_wire::StoreWriter;
+use cq_store_wire::{StoreWriter, store_fits};
 use std::alloc::Global;
 
 /// How many bytes of a chunk are enough.
@@ -26,12 +26,15 @@ pub struct StoreCopy {
 impl StoreCopy {
     /// A copy of the server's store, of which nothing is told. It shares the texts: O(clients, names, and what is kept of each).
     pub fn of(alloc: Global, core: &Server) -> Result<StoreCopy, NoMemory>
-        ensures { (s : states.Server) (outbox : rust_party.Party → List sent.Message) → StandsFor core.now s outbox
+        ensures untold { IfOk result IsUntold }
+        ensures stands { (s : states.Server) (outbox : rust_party.Party → List sent.Message) → StandsFor core.now s outbox
             → IfOk result (λ copy. IsCopyOf s.entries copy) }
     {
+        let store = core.store().try_copy()?;
+        store_fits(&store);
         Ok(StoreCopy {
             count: core.count(),
-            store: core.store().try_copy()?,
+            store,
             writer: StoreWriter::new(alloc),
         })
     }

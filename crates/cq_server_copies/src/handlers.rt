@@ -4,9 +4,12 @@ use crate::saving::SavingProcess;
 use cq_frame_loop::{FrameHandler, Unanswered};
 
 impl FrameHandler for SavingProcess {
+    ghost use Rattle.cq_frame_loop.specs.Chains.{any_break};
     ghost use Rattle.cq_server_copies.specs.Saving.{Answers};
 
     ghost answers = { Answers };
+
+    ghost breaks = { any_break };
 
     fn answer(
         &mut self,
@@ -22,9 +25,11 @@ impl FrameHandler for SavingProcess {
 }
 
 impl FrameHandler for LoadingProcess {
-    ghost use Rattle.cq_server_copies.specs.Loading.{Answers};
+    ghost use Rattle.cq_server_copies.specs.Loading.{Answers, Breaks};
 
     ghost answers = { Answers };
+
+    ghost breaks = { Breaks };
 
     fn answer(
         &mut self,

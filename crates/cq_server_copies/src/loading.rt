@@ -1,7 +1,7 @@
 //! A process that begins with a store, which it is told a chunk at a time.
 ghost use Rattle.std.specs.Prelude.{◌≡◌, ◌≤◌, Some, None, true, false, option_map, vec_capacity, vec_len, IfSome, OnErr, OnOk};
 ghost use Rattle.cq_base.specs.Relations.{IsPrefix};
-ghost use Rattle.cq_server_copies.specs.Loading.{IsLoaded, LoadsBytes, LoadsChunk, LoadsCommand, LoadsFrame, TellsAnswer, TellsLoading, is_serving};
+ghost use Rattle.cq_server_copies.specs.Loading.{Breaks, IsLoaded, LoadsBytes, LoadsChunk, LoadsCommand, LoadsFrame, TellsAnswer, TellsLoading, is_serving};
 ghost use Rattle.cq_server_copies.specs.declared.loading.Stage.TheVariants as stages;
 ghost use Rattle.cq_store_wire.specs.declared.build.State.TheVariants as store_states;
 
@@ -152,6 +152,7 @@ impl LoadingProcess {
     /// Whether what came is no store, or there was no memory to read it: O(1).
     pub fn has_failed(&self) -> bool
         ensures yes { result ≡ true → self.now.stage ≡ stages.Failed }
+        ensures no { result ≡ false → self.now.stage ≡ stages.Failed → ⊥ }
     {
         match &self.stage {
             Stage::Failed => true,
@@ -165,6 +166,7 @@ impl LoadingProcess {
         requires room { 64 ≤ vec_capacity end.old }
         requires loading { is_serving self.old.stage ≡ false }
         ensures tells { OnOk result (TellsLoading (option_map (λ bytes. bytes.now) frame.entry) self.old self.new end.new.items) }
+        ensures failed { OnErr result (self.new.stage ≡ stages.Failed) }
         ensures capacity { vec_capacity end.old ≤ vec_capacity end.new }
     {
         match mem::replace(&mut self.stage, Stage::Failed) {
@@ -191,6 +193,7 @@ impl LoadingProcess {
         requires serving { is_serving self.old.stage ≡ true }
         ensures tells { OnOk result (TellsAnswer (option_map (λ bytes. bytes.now) frame.entry) self.old self.new out.old.items out.new.items end.new.items) }
         ensures err { OnErr result (IsPrefix out.old.items out.new.items) }
+        ensures serves { is_serving self.new.stage ≡ true }
         ensures capacity { vec_capacity end.old ≤ vec_capacity end.new }
     {
         match &mut self.stage {
@@ -215,6 +218,7 @@ impl LoadingProcess {
         requires room { 64 ≤ vec_capacity end.old }
         ensures tells { OnOk result (TellsAnswer (option_map (λ bytes. bytes.now) frame.entry) self.old self.new out.old.items out.new.items end.new.items) }
         ensures err { OnErr result (IsPrefix out.old.items out.new.items) }
+        ensures breaks { OnErr result (Breaks self.old (option_map (λ bytes. bytes.now) frame.entry) self.new) }
         ensures capacity { vec_capacity end.old ≤ vec_capacity end.new }
     {
         if self.is_serving() {

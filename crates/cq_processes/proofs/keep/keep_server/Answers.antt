@@ -2,7 +2,8 @@
 use Rattle.std.proofs.Common.{[], inl, inr, refl, subst, sym}
 use Rattle.std.specs.Prelude.{IfOk}
 use Rattle.std.proofs.KnownBytes.{Appends-nil, Consumes-nil}
-use Rattle.cq_server_process.specs.Answers.{IsNewProcess, state}
+use Rattle.cq_server_process.specs.Answers.{IsNewProcess}
+use Rattle.cq_server_process.specs.Processes.{process_of}
 use Rattle.cq_processes.proofs.keep.keep_server.Goals as goal
 
 pub returns-in-Ok-clause-keeps : goal.returns-in-Ok-clause-keeps
@@ -15,7 +16,7 @@ returns-in-Ok-clause-keeps g c = λ s new.
       inl (record {
         first = c.new-process.result;
         last = c.answer_frames.new.handler;
-        new = subst (λ p. IsNewProcess s (state p.links p.core)) (sym c.new-process.ensures.process) (subst (λ o. IfOk o (λ p. IsNewProcess s (state p.links p.core))) c.in-Ok.is new);
+        new = subst (λ p. IsNewProcess s (process_of p)) (sym c.new-process.ensures.process) (subst (λ o. IfOk o (λ p. IsNewProcess s (process_of p))) c.in-Ok.is new);
         copy = c.new-process.ensures.copy;
         answered = h.4;
       }),

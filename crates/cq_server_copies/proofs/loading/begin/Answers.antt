@@ -4,7 +4,8 @@ use Rattle.cq_chain.specs.Servers.{alone}
 use Rattle.cq_frames.specs.declared.response.Response.TheVariants.{Done}
 use Rattle.cq_process_frames.specs.Frames.{frame}
 use Rattle.cq_server_copies.proofs.Chunks.{behind-nothing}
-use Rattle.cq_server_process.specs.Answers.{IsNewProcess, StandsSo, state}
+use Rattle.cq_server_process.specs.Answers.{IsNewProcess, StandsSo}
+use Rattle.cq_server_process.specs.Processes.{process_of}
 use Rattle.cq_server_copies.proofs.loading.begin.Goals as goal
 
 pub returns-in-Ok-clause-loads : goal.returns-in-Ok-clause-loads
@@ -16,7 +17,7 @@ returns-in-Ok-clause-loads c =
       process = c.new-process.result;
       is = refl;
       copy = c.new-process.ensures.copy;
-      new = λ entries stands. subst (λ p. IsNewProcess (alone entries) (state p.links p.core)) (sym c.new-process.ensures.process) (c.alone.ensures entries stands);
+      new = λ entries stands. subst (λ p. IsNewProcess (alone entries) (process_of p)) (sym c.new-process.ensures.process) (c.alone.ensures entries stands);
       standing = c.standing.result;
       stands = subst (λ core. StandsSo core c.standing.result) c.core.ensures (record {
         count = c.standing.ensures.count;
