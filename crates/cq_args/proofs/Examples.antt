@@ -99,13 +99,17 @@ bad_process_args :
     ∷ (codes "server" ∷ codes "--id" ∷ codes "1" ∷ codes "--first" ∷ codes "9" ∷ []) ∷ (codes "server" ∷ codes "--id" ∷ codes "4294967296" ∷ codes "--joining" ∷ [])
     ∷ (codes "master" ∷ []) ∷ (codes "master" ∷ codes "--servers" ∷ codes "9" ∷ []) ∷ (codes "master" ∷ codes "--servers" ∷ codes "1" ∷ codes "extra" ∷ [])
     ∷ (codes "server" ∷ codes "--id" ∷ codes "1" ∷ codes "--first" ∷ codes "3" ∷ []) ∷ (codes "server" ∷ codes "--joining" ∷ codes "--id=4294967295" ∷ [])
-    ∷ (codes "master" ∷ codes "--servers" ∷ codes "3" ∷ []) ∷ []
+    ∷ (codes "master" ∷ codes "--servers" ∷ codes "3" ∷ [])
+    ∷ (codes "server" ∷ codes "--id" ∷ codes "2" ∷ codes "--joining" ∷ codes "--wire" ∷ codes "2" ∷ []) ∷ (codes "master" ∷ codes "--servers" ∷ codes "3" ∷ codes "--wire=0" ∷ [])
+    ∷ (codes "server" ∷ codes "--wire" ∷ codes "1" ∷ codes "--id" ∷ codes "2" ∷ codes "--joining" ∷ []) ∷ (codes "master" ∷ codes "--servers" ∷ codes "3" ∷ codes "--wire=1" ∷ []) ∷ []
     )
     ≡ true ∷ true ∷ true
     ∷ true ∷ true
     ∷ true ∷ true ∷ true
     ∷ false ∷ false
-    ∷ false ∷ []
+    ∷ false
+    ∷ true ∷ true
+    ∷ false ∷ false ∷ []
 unfolding clap_on_literals
 bad_process_args = refl
 

@@ -173,9 +173,22 @@ load_rule = record (new_rule (codes "load")) {
   action = Some SetTrue;
 }
 
+-- `--wire V`, which is 1, also if it isn't given
+abbrev pub wire_rule : Rule
+wire_rule = record (new_rule (codes "wire")) {
+  long = Some (codes "wire");
+  value_names = 1;
+  defaults = codes "1" ∷ [];
+  parser = Some (Signed (pos 1) (pos 1));
+}
+
 -- `server --id N [--first SIZE] [--joining] [--load]`, of which one of the second and the third has to be there
+abbrev pub placed_server_app : App
+placed_server_app = with_rule (with_rule (with_rule (with_rule (new_app (codes "server")) id_rule) first_rule) joining_rule) load_rule
+
+-- and `[--wire V]`
 abbrev pub server_app : App
-server_app = with_rule (with_rule (with_rule (with_rule (new_app (codes "server")) id_rule) first_rule) joining_rule) load_rule
+server_app = with_rule placed_server_app wire_rule
 
 -- `--servers N`, a number from 1 to 8, which has to be there
 abbrev pub size_rule : Rule
@@ -186,9 +199,9 @@ size_rule = record (new_rule (codes "servers")) {
   parser = Some (Signed (pos 1) (pos 8));
 }
 
--- `master --servers N`
+-- `master --servers N [--wire V]`
 abbrev pub master_app : App
-master_app = with_rule (new_app (codes "master")) size_rule
+master_app = with_rule (with_rule (new_app (codes "master")) size_rule) wire_rule
 
 -- the program, with `server` and `master` too
 abbrev pub program_app : App

@@ -7,7 +7,7 @@ ghost use Rattle.clap.specs.declared.error.kind.ErrorKind.TheVariants.{OutOfMemo
 ghost use Rattle.cq_args.specs.declared.invocation.TheConstants.{ZERO_DIGIT};
 ghost use Rattle.cq_args.specs.declared.invocation.Invocation.{Invocation};
 ghost use Rattle.cq_args.specs.declared.invocation.Invocation.TheVariants as invocations;
-ghost use Rattle.cq_args.specs.CommandLine.{AsksFiles, AsksJournal, AsksProcess, IsAsked, IsFirstIn, IsOnFile, IsProcess, LacksJournal, LacksJournalIn, IsNumber, IsSized, ReadsTurns, asked_invocation, command_app, copy_app, file_app, file_rule, first_rule, id_rule, joining_rule, journal_app, journal_rule, journal_size_rule, live_app, load_rule, master_app, master_name, name_in, name_of, program_app, server_app, server_name, serving_app, size_rule, session_app, session_name, size_of, tell_store_rule, text_in, turns_rule, turns_text, two_syncs_rule};
+ghost use Rattle.cq_args.specs.CommandLine.{AsksFiles, AsksJournal, AsksProcess, IsAsked, IsFirstIn, IsOnFile, IsProcess, LacksJournal, LacksJournalIn, IsNumber, IsSized, ReadsTurns, asked_invocation, command_app, copy_app, file_app, file_rule, first_rule, id_rule, joining_rule, journal_app, journal_rule, journal_size_rule, live_app, load_rule, master_app, master_name, name_in, name_of, placed_server_app, program_app, server_app, server_name, serving_app, size_rule, session_app, session_name, size_of, tell_store_rule, text_in, turns_rule, turns_text, two_syncs_rule, wire_rule};
 
 use clap::error::ErrorKind;
 use clap::{Arg, ArgAction, ArgMatches, Command, Error, value_parser};
@@ -126,6 +126,8 @@ const TWO_SYNCS: &str = "two-syncs";
 
 const TELL_STORE: &str = "tell-store";
 
+const WIRE: &str = "wire";
+
 /// The length of a journal that is made, in mebibytes, if none is given.
 const JOURNAL_SIZE_DEFAULT: u64 = 256;
 
@@ -133,6 +135,12 @@ const JOURNAL_SIZE_DEFAULT: u64 = 256;
 const JOURNAL_SIZE_LEAST: u32 = 64;
 
 const JOURNAL_SIZE_MOST: u32 = 1_048_576;
+
+/// The version of the bytes that processes of a chain read and write (docs/WIRE.md), which is the only one.
+const WIRE_VERSION: u8 = 1;
+
+/// Its text, which stands if none is given.
+const WIRE_DEFAULT: &str = "1";
 
 /// The number of servers that a replay and a session have if none is given.
 const SERVERS_DEFAULT: &str = "1";
@@ -375,9 +383,22 @@ fn load_option<'a>(alloc: Global) -> Arg<'a>
         )
 }
 
-/// The subcommand for a process that keeps a server.
-fn server<'a>(alloc: Global) -> Result<Command<'a>, AllocError>
-    ensures app { IfOk result (λ command. app_of command ≡ server_app) }
+/// The version of the bytes that a process writes, as an option.
+fn wire_option<'a>(alloc: Global) -> Arg<'a>
+    ensures rule { rule_of result ≡ wire_rule }
+    ensures local { result.global ≡ false }
+{
+    Arg::new(alloc, WIRE)
+        .long(WIRE)
+        .value_name("V")
+        .value_parser(value_parser!(u8).range(1..=i64::from(WIRE_VERSION)))
+        .default_value(WIRE_DEFAULT)
+        .help("The version of the bytes that it writes: there is 1 alone")
+}
+
+/// The subcommand for a process that keeps a server, with the options that say which one.
+fn placed_server<'a>(alloc: Global) -> Result<Command<'a>, AllocError>
+    ensures app { IfOk result (λ command. app_of command ≡ placed_server_app) }
     ensures local { IfOk result (λ command. (out-Command command).has_globals ≡ false) }
 {
     let command = Command::new(alloc, SERVER)
@@ -388,6 +409,15 @@ fn server<'a>(alloc: Global) -> Result<Command<'a>, AllocError>
     let command = command.arg(first_option(alloc))?;
     let command = command.arg(joining_option(alloc))?;
     command.arg(load_option(alloc))
+}
+
+/// The subcommand for a process that keeps a server.
+fn server<'a>(alloc: Global) -> Result<Command<'a>, AllocError>
+    ensures app { IfOk result (λ command. app_of command ≡ server_app) }
+    ensures local { IfOk result (λ command. (out-Command command).has_globals ≡ false) }
+{
+    let command = placed_server(alloc)?;
+    command.arg(wire_option(alloc))
 }
 
 /// The number of servers of a first chain, as an option of its master.
@@ -408,9 +438,10 @@ fn master<'a>(alloc: Global) -> Result<Command<'a>, AllocError>
     ensures app { IfOk result (λ command. app_of command ≡ master_app) }
     ensures local { IfOk result (λ command. (out-Command command).has_globals ≡ false) }
 {
-    Command::new(alloc, MASTER)
+    let command = Command::new(alloc, MASTER)
         .about("Keeps the master of a chain, as 'cq server' keeps a server")
-        .arg(size_option(alloc))
+        .arg(size_option(alloc))?;
+    command.arg(wire_option(alloc))
 }
 
 /// The program's command line without those commands that are about a process of a chain.
