@@ -64,6 +64,14 @@ impl Clock {
         self.last.fetch_max(moment, Ordering::Relaxed);
     }
 
+    /// It is that time, at that moment since the system's start, both in milliseconds: a chain's time counts, which may go
+    /// slower or faster than the system's. What was told stays the least.
+    pub fn follow(&self, time: Moment, since_start: u64) {
+        if matches!(self.source, Source::SinceBoot) {
+            self.offset.store(time as i64 - since_start as i64, Ordering::Relaxed);
+        }
+    }
+
     /// Waits until `moment` is there.
     pub async fn wait_until(&self, moment: Moment) {
         loop {
@@ -110,6 +118,17 @@ mod tests {
         assert!((first + 3_600_000..first + 3_660_000).contains(&later));
         std::thread::sleep(Duration::from_millis(20));
         assert!(clock.now() > later, "time isn't held until the wall clock has caught up");
+    }
+
+    #[test]
+    fn who_follows_a_chain_has_its_time_and_never_goes_back() {
+        let clock = Clock::new();
+        let first = clock.now();
+        clock.follow(first + 5_000, since_boot() as u64);
+        let later = clock.now();
+        assert!((first + 5_000..first + 65_000).contains(&later));
+        clock.follow(first, since_boot() as u64);
+        assert!(clock.now() >= later);
     }
 
     #[test]

@@ -10,6 +10,7 @@ use clap_complete::Shell;
 use hobbychair_cluster::command_line as cluster;
 
 use crate::config::{LogFormat, LogLevel, LogSettings, Misuse, Options};
+use crate::front;
 use crate::inspect;
 use crate::log;
 use crate::serve::{self, serve};
@@ -129,9 +130,11 @@ fn serve_by(options: Options) -> Result<()> {
     let options = options.with_file()?;
     begin_log(options.log())?;
     let threads = options.threads()?;
-    let settings = options.settings(program)?;
     let runtime = tokio::runtime::Builder::new_multi_thread().worker_threads(threads).enable_all().build()?;
-    let served = runtime.block_on(serve(settings));
+    let served = match options.front()? {
+        Some(settings) => runtime.block_on(front::serve(settings)),
+        None => runtime.block_on(serve(options.settings(program)?)),
+    };
     // What still waits for a client or a disk is of no use any more.
     runtime.shutdown_background();
     served

@@ -11,6 +11,7 @@ use serde::Deserialize;
 use thiserror::Error;
 
 use crate::actions::{Owner, Pauses};
+use crate::front;
 use crate::journal::Files;
 use crate::queues::shards::Shards;
 use crate::serve::Settings;
@@ -34,6 +35,12 @@ pub struct Options {
     /// The port; 0 is any free one [default: 9324]
     #[arg(long, env = "HOBBYCHAIR_PORT")]
     port: Option<u16>,
+    /// Keep no queues, and pass requests on to the gateway of this cluster that acts
+    #[arg(long, value_name = "NAME", env = "HOBBYCHAIR_CLUSTER")]
+    cluster: Option<String>,
+    /// The members of the cluster's etcd
+    #[arg(long, value_name = "URL,..", value_delimiter = ',', env = "HOBBYCHAIR_ETCD")]
+    etcd: Option<Vec<String>>,
     /// The program cq [default: cq of the path]
     #[arg(long, value_name = "PROGRAM", env = "HOBBYCHAIR_CQ")]
     cq: Option<String>,
@@ -103,6 +110,10 @@ pub struct Options {
     /// What is logged; each request at debug [default: info]
     #[arg(long, value_name = "LEVEL", env = "HOBBYCHAIR_LOG_LEVEL")]
     log_level: Option<LogLevel>,
+    /// A node starts this, and has the other end of standard input.
+    #[arg(long, hide = true, conflicts_with_all = ["journal", "journal_size", "shards"])]
+    #[serde(skip)]
+    beside_node: bool,
     #[arg(long, hide = true)]
     #[serde(skip)]
     clock_file: Option<PathBuf>,
@@ -342,6 +353,8 @@ impl Options {
             config: self.config,
             host: self.host.or(file.host),
             port: self.port.or(file.port),
+            cluster: self.cluster.or(file.cluster),
+            etcd: self.etcd.or(file.etcd),
             cq: self.cq.or(file.cq),
             cq_timeout: self.cq_timeout.or(file.cq_timeout),
             threads: self.threads.or(file.threads),
@@ -365,6 +378,7 @@ impl Options {
             peek: self.peek.or(file.peek),
             log: self.log.or(file.log),
             log_level: self.log_level.or(file.log_level),
+            beside_node: self.beside_node,
             clock_file: self.clock_file,
             queue: file.queue,
         }
@@ -384,6 +398,50 @@ impl Options {
         }
     }
 
+    /// What a front is started with, if a cluster is named.
+    pub fn front(&self) -> Result<Option<front::Settings>> {
+        let (cluster, etcd) = match (self.cluster.clone(), self.etcd.clone()) {
+            (Some(cluster), Some(etcd)) => (cluster, etcd),
+            (None, None) => return Ok(None),
+            _ => return Err(Misuse("a cluster and the members of its etcd are given together".into()).into()),
+        };
+        if let Some((name, _)) = self.of_gateways().into_iter().find(|(_, is_given)| *is_given) {
+            let why = "is nothing that a front is told: it is for the gateways beside the nodes (--gateway-config)";
+            return Err(Misuse(format!("{name} {why}")).into());
+        }
+        Ok(Some(front::Settings {
+            cluster,
+            etcd,
+            host: self.host.clone().unwrap_or_else(|| LOOPBACK.into()),
+            port: self.port.unwrap_or(PORT),
+            open: self.open.unwrap_or(false),
+            connections: between("connections", self.connections.unwrap_or(CONNECTIONS), 1, MOST_CONNECTIONS)?,
+            request_memory: request_memory(self.request_memory)?,
+        }))
+    }
+
+    /// The options that a front has no use for, and whether they are given.
+    fn of_gateways(&self) -> [(&'static str, bool); 16] {
+        [
+            ("shards", self.shards.is_some()),
+            ("journal", self.journal.is_some()),
+            ("journal-size", self.journal_size.is_some()),
+            ("memory", self.memory.is_some()),
+            ("credentials", self.credentials.is_some()),
+            ("certificate", self.certificate.is_some()),
+            ("key", self.key.is_some()),
+            ("url", self.url.is_some()),
+            ("allowed-hosts", self.allowed_hosts.is_some()),
+            ("account", self.account.is_some()),
+            ("region", self.region.is_some()),
+            ("polls", self.polls.is_some()),
+            ("no-pauses", self.no_pauses.is_some()),
+            ("admin", self.admin.is_some()),
+            ("peek", self.peek.is_some()),
+            ("[[queue]]", !self.queue.is_empty()),
+        ]
+    }
+
     /// What a gateway is started with. `program` finds the program cq by what was said of it.
     pub fn settings(self, program: impl FnOnce(Option<String>) -> Result<String>) -> Result<Settings> {
         let certificate = match (self.certificate, self.key) {
@@ -391,6 +449,9 @@ impl Options {
             (None, None) => None,
             _ => return Err(Misuse("a certificate and its key are given together".into()).into()),
         };
+        if self.beside_node && (self.journal.is_some() || self.shards.is_some()) {
+            return Err(Misuse("a gateway beside a node has no journal and no shards of its own".into()).into());
+        }
         if self.journal_size.is_some() && self.journal.is_none() {
             return Err(Misuse("a size of the journal is given, and no journal".into()).into());
         }
@@ -415,10 +476,12 @@ impl Options {
         Ok(Settings {
             host: self.host.unwrap_or_else(|| LOOPBACK.into()),
             port: self.port.unwrap_or(PORT),
-            program: program(self.cq)?,
+            // A gateway beside a node starts none.
+            program: if self.beside_node { String::new() } else { program(self.cq)? },
             cq_timeout: Duration::from_secs(u64::from(between("cq-timeout", cq_timeout, 1, 3_600)?)),
             shards,
             journal,
+            beside_node: self.beside_node,
             memory: self.memory.map(|size| size.0),
             request_memory: request_memory(self.request_memory)?,
             credentials: self.credentials,
@@ -526,6 +589,25 @@ mod tests {
         assert_eq!((settings.connections, settings.polls), (10_000, 9_000));
         let names: Vec<_> = settings.queues.iter().map(|queue| queue.name.as_str()).collect();
         assert_eq!(names, ["a.fifo", "b.fifo"]);
+    }
+
+    #[test]
+    fn a_front_is_told_of_its_cluster_and_nothing_of_queues() {
+        let text = "cluster = \"c\"\netcd = [\"http://127.0.0.1:2379\"]\nport = 7\nrequest-memory = \"64MiB\"\n";
+        let options: Options = toml::from_str(text).unwrap();
+        let front = options.front().unwrap().unwrap();
+        assert_eq!(
+            (front.cluster.as_str(), front.etcd.len(), front.host.as_str(), front.port),
+            ("c", 1, "127.0.0.1", 7)
+        );
+        assert_eq!((front.open, front.connections, front.request_memory), (false, 10_000, 64 << 20));
+        assert!(Options::default().front().unwrap().is_none());
+        let half = Options { etcd: None, ..options.clone() };
+        let stranger = Options { journal: Some("j".into()), ..options.clone() };
+        let many = Options { connections: Some(0), ..options };
+        for bad in [half, stranger, many] {
+            assert!(bad.front().unwrap_err().is::<Misuse>());
+        }
     }
 
     #[test]

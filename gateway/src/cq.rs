@@ -1,4 +1,4 @@
-//! The process `cq session`.
+//! What keeps the store: the process `cq session`, or a node.
 
 use std::os::unix::process::CommandExt;
 use std::path::PathBuf;
@@ -8,6 +8,7 @@ use std::time::Duration;
 use hobbychair_cluster::end_with_this_process;
 use thiserror::Error;
 use tokio::io::AsyncReadExt;
+use tokio::net::UnixStream;
 use tokio::process::{Child, ChildStderr, Command};
 
 use crate::pipes::{Input, Output};
@@ -23,6 +24,8 @@ pub enum CqError {
     NotCq(String),
     #[error("cq is gone: {0}")]
     Gone(String),
+    #[error("the node is gone, or it has ended this gateway's life")]
+    NodeGone,
     #[error("{0}")]
     NotBuilt(String),
 }
@@ -34,9 +37,10 @@ impl CqError {
     }
 }
 
-/// A running `cq session`. It ends when this is dropped.
+/// A running `cq session`, which ends when this is dropped; or a node whose chain keeps the store.
 pub struct Cq {
-    process: Child,
+    /// None: it is a node's.
+    process: Option<Child>,
     pub input: Input,
     pub output: Output,
     /// Of one that keeps its lines: what it says of its end.
@@ -92,7 +96,13 @@ impl Cq {
         let pipes = process.stdin.take().zip(process.stdout.take());
         let (input, output) = pipes.ok_or_else(|| not_started("it has no pipes".into()))?;
         let errors = process.stderr.take();
-        Ok(Cq { process, input: Input::new(input), output: Output::new(output), errors })
+        Ok(Cq { process: Some(process), input: Input::new(input), output: Output::new(output), errors })
+    }
+
+    /// What has the other end of this socket is a node.
+    pub fn of_node(socket: UnixStream) -> Cq {
+        let (output, input) = socket.into_split();
+        Cq { process: None, input: Input::of_node(input), output: Output::of_node(output), errors: None }
     }
 
     /// Starts so many programs, each of which has `patience` for an answer.
@@ -108,7 +118,8 @@ impl Cq {
 
     /// Waits for the end of a program that has closed its output, and says how it ended. One that goes on is ended.
     pub async fn end(&mut self) -> CqError {
-        match tokio::time::timeout(LAST_MOMENTS, self.process.wait()).await {
+        let Some(process) = &mut self.process else { return CqError::NodeGone };
+        match tokio::time::timeout(LAST_MOMENTS, process.wait()).await {
             Ok(Ok(status)) => CqError::Gone(format!("it ended with {}{}", said(status), self.last_words().await)),
             Ok(Err(error)) => CqError::Gone(error.to_string()),
             Err(_) => {
@@ -133,13 +144,16 @@ impl Cq {
     /// Ends the program, and all that it started, and waits for its end.
     pub async fn stop(&mut self) {
         self.end_group();
-        // Where it has ended already, there is nothing to end.
-        let _ = self.process.kill().await;
+        if let Some(process) = &mut self.process {
+            // Where it has ended already, there is nothing to end.
+            let _ = process.kill().await;
+        }
     }
 
     /// The program has a process group of its own, as long as it isn't waited for.
     fn end_group(&self) {
-        if let Some(id) = self.process.id().and_then(|id| i32::try_from(id).ok()) {
+        let id = self.process.as_ref().and_then(Child::id);
+        if let Some(id) = id.and_then(|id| i32::try_from(id).ok()) {
             // SAFETY: the call touches no memory of this process.
             unsafe { libc::killpg(id, libc::SIGKILL) };
         }

@@ -8,7 +8,7 @@ use crate::errors::SqsError;
 use crate::moves::{give_back, move_to_target};
 use crate::queues::ask::{Ask, Fate, Handed, Outcome, Reach};
 use crate::queues::Queue;
-use crate::store::{Answer, Store};
+use crate::store::{spawn_wanted, Answer, Store};
 
 /// The most messages to which the gateway sees itself in one request before it answers.
 const MOST_OWN: usize = 100;
@@ -45,7 +45,7 @@ pub async fn receive(store: &Store, queue: &Arc<Queue>, ask: Ask) -> Result<Deli
         return receiving.await;
     }
     // It goes on where its client goes.
-    tokio::spawn(receiving).await.unwrap_or_else(|_| Err(SqsError::store_is_gone()))
+    spawn_wanted(receiving).await.unwrap_or_else(|_| Err(SqsError::store_is_gone()))
 }
 
 async fn receive_on(store: Store, queue: Arc<Queue>, ask: Ask) -> Result<Delivered, SqsError> {
@@ -77,7 +77,7 @@ pub async fn ask_all(store: &Store, queue: &Arc<Queue>, asks: Vec<Ask>) -> Vec<A
     let count = asks.len();
     let (store, queue) = (store.clone(), queue.clone());
     // Whoever has a queue to itself brings that to its end.
-    let asked = tokio::spawn(async move {
+    let asked = spawn_wanted(async move {
         let mut answers = Vec::with_capacity(count);
         for ask in asks {
             answers.push(ask_for_due(&store, &queue, ask).await);

@@ -19,6 +19,8 @@ mod deliveries;
 mod digests;
 mod ending;
 mod errors;
+mod frames;
+mod front;
 mod handles;
 mod http;
 mod inspect;

@@ -3,7 +3,6 @@
 use std::borrow::Cow;
 
 use serde::{Deserialize, Serialize};
-use serde_json::value::RawValue;
 use thiserror::Error;
 
 use crate::handles::Receipt;
@@ -167,13 +166,18 @@ fn append<T: Serialize>(out: &mut Vec<u8>, line: &T) -> Result<(), serde_json::E
     Ok(())
 }
 
+/// The JSON of an ask.
+pub fn ask(fields: &AskFields<'_>) -> Result<Vec<u8>, serde_json::Error> {
+    serde_json::to_vec(fields)
+}
+
 /// Appends the two lines of a request: it arrives, and its answer is given.
 pub fn append_request(
     out: &mut Vec<u8>,
     clock: u64,
     client: u32,
     number: u64,
-    ask: &RawValue,
+    ask: &[u8],
 ) -> Result<(), serde_json::Error> {
     // By pieces, since these names are the same in each line, and serde would look for what is to be escaped in them.
     append_number(out, "{\"op\":\"arrive\",\"at\":", SERVER.into())?;
@@ -184,7 +188,7 @@ pub fn append_request(
     out.extend(std::iter::repeat(b' ').take(CLIENT_DIGITS.saturating_sub(digits)));
     append_number(out, ",\"number\":", number)?;
     out.extend_from_slice(b",\"ask\":");
-    out.extend_from_slice(ask.get().as_bytes());
+    out.extend_from_slice(ask);
     out.extend_from_slice(b"}\n");
     out.extend_from_slice(PUT);
     Ok(())
@@ -200,11 +204,8 @@ fn append_number(out: &mut Vec<u8>, name: &str, number: u64) -> Result<(), serde
 
 /// Appends a request that does nothing but move the store's moment on. A count is of the moment of the last request.
 pub fn append_moment(out: &mut Vec<u8>, clock: u64) -> Result<(), serde_json::Error> {
-    let ask = serde_json::value::to_raw_value(&AskFields {
-        size: Some(1),
-        queue: NO_QUEUE.into(),
-        ..AskFields::new(AskKind::Receive, StoreName(0))
-    })?;
+    let ask =
+        ask(&AskFields { size: Some(1), queue: NO_QUEUE.into(), ..AskFields::new(AskKind::Receive, StoreName(0)) })?;
     append_request(out, clock, COUNTER, 0, &ask)
 }
 
@@ -386,9 +387,9 @@ mod tests {
     use crate::seeded::{check, edits, spoilt};
 
     fn line_of(ask: &Ask) -> String {
-        let raw = serde_json::value::to_raw_value(&AskFields::of(StoreName(7), 10, ask)).unwrap();
+        let ask = super::ask(&AskFields::of(StoreName(7), 10, ask)).unwrap();
         let mut out = Vec::new();
-        append_request(&mut out, 5, 2, 3, &raw).unwrap();
+        append_request(&mut out, 5, 2, 3, &ask).unwrap();
         String::from_utf8(out).unwrap()
     }
 

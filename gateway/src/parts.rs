@@ -14,7 +14,7 @@ use crate::errors::SqsError;
 use crate::messages::{parts_of, Envelope, EnvelopeHead};
 use crate::queues::ask::{Ask, Handed, Outcome, PartsAsk, PartsCause};
 use crate::queues::Queue;
-use crate::store::{Answer, Operation, Store};
+use crate::store::{spawn_wanted, Answer, Operation, Store};
 
 /// So many parts are removed at once.
 const REMOVED_AT_ONCE: usize = 32;
@@ -45,7 +45,7 @@ pub async fn perform_all(
     let count = operations.len();
     let (store, queue, share) = (store.clone(), queue.clone(), share.clone());
     // It goes on where its client goes, since parts may go only when it is known whether a line names them.
-    let performed = tokio::spawn(async move { put_and_perform(&store, &queue, operations, &share).await });
+    let performed = spawn_wanted(async move { put_and_perform(&store, &queue, operations, &share).await });
     performed.await.unwrap_or_else(|_| (0..count).map(|_| Err(SqsError::store_is_gone())).collect())
 }
 

@@ -1,4 +1,4 @@
-//! The pipes of the program `cq`.
+//! The pipes of the program `cq`, and the socket of a node.
 //!
 //! Once, under much load, a gateway stood still for good: it had written the first 64 KiB of a request, `cq` had read
 //! them and waited for more, and the gateway was never told that the pipe was free. What follows is read from the source
@@ -15,6 +15,7 @@ use std::time::Duration;
 
 use rustix::fd::BorrowedFd;
 use tokio::io::{AsyncRead, AsyncWrite, ReadBuf};
+use tokio::net::unix::{OwnedReadHalf, OwnedWriteHalf};
 use tokio::process::{ChildStdin, ChildStdout};
 use tokio::time::{sleep_until, Instant, Sleep};
 
@@ -54,15 +55,59 @@ fn borrowed<'a>(pipe: RawFd) -> BorrowedFd<'a> {
     unsafe { BorrowedFd::borrow_raw(pipe) }
 }
 
-/// Where the program reads.
+/// Where the program reads, or the node.
+enum InputPipe {
+    Program(ChildStdin),
+    Node(OwnedWriteHalf),
+}
+
+/// Where the program writes, or the node.
+enum OutputPipe {
+    Program(ChildStdout),
+    Node(OwnedReadHalf),
+}
+
+impl InputPipe {
+    fn raw(&self) -> RawFd {
+        match self {
+            InputPipe::Program(pipe) => pipe.as_raw_fd(),
+            InputPipe::Node(half) => half.as_ref().as_raw_fd(),
+        }
+    }
+
+    fn writer(&mut self) -> &mut (dyn AsyncWrite + Send + Unpin) {
+        match self {
+            InputPipe::Program(pipe) => pipe,
+            InputPipe::Node(half) => half,
+        }
+    }
+}
+
+impl OutputPipe {
+    fn raw(&self) -> RawFd {
+        match self {
+            OutputPipe::Program(pipe) => pipe.as_raw_fd(),
+            OutputPipe::Node(half) => half.as_ref().as_raw_fd(),
+        }
+    }
+
+    fn reader(&mut self) -> &mut (dyn AsyncRead + Send + Unpin) {
+        match self {
+            OutputPipe::Program(pipe) => pipe,
+            OutputPipe::Node(half) => half,
+        }
+    }
+}
+
+/// Where what keeps the store reads.
 pub struct Input {
-    pipe: ChildStdin,
+    pipe: InputPipe,
     looks: Looks,
 }
 
-/// Where the program writes.
+/// Where what keeps the store writes.
 pub struct Output {
-    pipe: ChildStdout,
+    pipe: OutputPipe,
     looks: Looks,
     /// Something is to come, so the pipe is looked at. An idle gateway looks at nothing.
     pub is_awaited: bool,
@@ -73,13 +118,26 @@ pub struct Output {
 
 impl Input {
     pub fn new(pipe: ChildStdin) -> Input {
-        Input { pipe, looks: Looks::default() }
+        Input { pipe: InputPipe::Program(pipe), looks: Looks::default() }
+    }
+
+    pub fn of_node(half: OwnedWriteHalf) -> Input {
+        Input { pipe: InputPipe::Node(half), looks: Looks::default() }
     }
 }
 
 impl Output {
     pub fn new(pipe: ChildStdout) -> Output {
-        Output { pipe, looks: Looks::default(), is_awaited: true, patience: PATIENCE, silent_since: None }
+        Output::of(OutputPipe::Program(pipe), PATIENCE)
+    }
+
+    /// What a node tells takes as long as its chain does.
+    pub fn of_node(half: OwnedReadHalf) -> Output {
+        Output::of(OutputPipe::Node(half), Duration::MAX)
+    }
+
+    fn of(pipe: OutputPipe, patience: Duration) -> Output {
+        Output { pipe, looks: Looks::default(), is_awaited: true, patience, silent_since: None }
     }
 
     fn is_silent_for_too_long(&mut self) -> bool {
@@ -89,7 +147,7 @@ impl Output {
 
 impl AsyncWrite for Input {
     fn poll_write(mut self: Pin<&mut Self>, context: &mut Context<'_>, bytes: &[u8]) -> Poll<io::Result<usize>> {
-        let written = Pin::new(&mut self.pipe).poll_write(context, bytes);
+        let written = Pin::new(self.pipe.writer()).poll_write(context, bytes);
         if written.is_ready() {
             self.looks.end();
             return written;
@@ -97,7 +155,7 @@ impl AsyncWrite for Input {
         if !self.looks.are_due(context) {
             return Poll::Pending;
         }
-        match rustix::io::write(borrowed(self.pipe.as_raw_fd()), bytes) {
+        match rustix::io::write(borrowed(self.pipe.raw()), bytes) {
             Ok(count) => Poll::Ready(Ok(count)),
             // A fault that stays is told by tokio as well.
             Err(_) => Poll::Pending,
@@ -105,11 +163,11 @@ impl AsyncWrite for Input {
     }
 
     fn poll_flush(mut self: Pin<&mut Self>, context: &mut Context<'_>) -> Poll<io::Result<()>> {
-        Pin::new(&mut self.pipe).poll_flush(context)
+        Pin::new(self.pipe.writer()).poll_flush(context)
     }
 
     fn poll_shutdown(mut self: Pin<&mut Self>, context: &mut Context<'_>) -> Poll<io::Result<()>> {
-        Pin::new(&mut self.pipe).poll_shutdown(context)
+        Pin::new(self.pipe.writer()).poll_shutdown(context)
     }
 }
 
@@ -119,7 +177,7 @@ impl AsyncRead for Output {
         context: &mut Context<'_>,
         buffer: &mut ReadBuf<'_>,
     ) -> Poll<io::Result<()>> {
-        let read = Pin::new(&mut self.pipe).poll_read(context, buffer);
+        let read = Pin::new(self.pipe.reader()).poll_read(context, buffer);
         if read.is_ready() || !self.is_awaited {
             self.looks.end();
             self.silent_since = None;
@@ -130,7 +188,7 @@ impl AsyncRead for Output {
             return Poll::Pending;
         }
         let mut piece = vec![0; PIECE.min(buffer.remaining())];
-        match rustix::io::read(borrowed(self.pipe.as_raw_fd()), &mut piece) {
+        match rustix::io::read(borrowed(self.pipe.raw()), &mut piece) {
             Ok(count) => {
                 self.silent_since = None;
                 buffer.put_slice(&piece[..count]);

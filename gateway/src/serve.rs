@@ -32,7 +32,7 @@ use crate::purges;
 use crate::queues::shards::Shards;
 use crate::queues::{Image, Queues};
 use crate::retention;
-use crate::store::{self, Ends, Kept, Ready, Start, Store, ToldError};
+use crate::store::{self, Ends, Kept, NodeStart, Ready, Start, Store, ToldError};
 use crate::tls::Certificate;
 use crate::upgrade::Upgrade;
 
@@ -49,6 +49,8 @@ pub struct Settings {
     pub shards: Shards,
     /// Where the programs keep their lines, if they do.
     pub journal: Option<Files>,
+    /// The store is kept by a chain of servers, and the node of the head has the other end of standard input.
+    pub beside_node: bool,
     /// So many bytes messages and what else counts may use.
     pub memory: Option<u64>,
     /// So many bytes may be kept by all requests that are being served.
@@ -133,8 +135,10 @@ struct Started {
 async fn prepare(settings: Arc<Settings>) -> Result<Prepared> {
     let entrance = Entrance::of(&settings)?;
     let places = Places::for_connections(settings.connections)?;
-    test_built(&settings.program).await?;
-    test_version(&settings.program).await?;
+    if !settings.beside_node {
+        test_built(&settings.program).await?;
+        test_version(&settings.program).await?;
+    }
     let admin = Arc::new(Admin {
         health: Arc::new(Health::default()),
         metrics: Arc::new(Metrics::new()?),
@@ -247,6 +251,8 @@ async fn tell(program: &str, file: &KeptFile, patience: Duration, peek: bool) ->
 /// What is known of queues before anybody asks.
 struct Begun {
     cqs: Vec<Cq>,
+    /// The node, where one has the store.
+    node: Option<NodeStart>,
     kept: Option<Kept>,
     /// When the store was asked for the last time.
     last: Moment,
@@ -286,19 +292,44 @@ async fn begin_kept(
     if lines > 0 {
         say(&format!("took up {lines} lines of the journal"));
     }
-    Ok(Begun { cqs, kept: Some(kept), last, _lock: Some(lock) })
+    Ok(Begun { cqs, node: None, kept: Some(kept), last, _lock: Some(lock) })
+}
+
+/// Takes up the store that the node tells, as far as the head has it. All of that will be in the chain's list as long as this
+/// head lives.
+async fn begin_beside_node(settings: &Settings, tables: (&Arc<Clock>, &Arc<Queues>)) -> Result<Begun> {
+    let (clock, queues) = tables;
+    let mut image = Image::new(settings.peek);
+    let (mut cq, mut node) = store::take_up_from_node(clock, &mut |chunk| image.feed(chunk)).await?;
+    let (last, number) = (image.last(), image.largest_number());
+    let shard = settings.shards.all().next().context("there is no shard")?;
+    // It takes a second for some hundred thousand messages.
+    let making = tokio::task::spawn_blocking({
+        let queues = queues.clone();
+        move || queues.take_up(shard, image)
+    });
+    store::wait_beside_node(making, &mut cq, &mut node, clock).await?.context("the store of the head")?;
+    clock.go_on_from(last);
+    let kept = Kept { files: Vec::new(), begun: vec![(0, number)] };
+    Ok(Begun { cqs: vec![cq], node: Some(node), kept: Some(kept), last, _lock: None })
+}
+
+fn begin_without_journal(settings: &Settings) -> Result<Begun> {
+    let cqs = Cq::start_all(&settings.program, settings.shards.count(), settings.cq_timeout)?;
+    Ok(Begun { cqs, node: None, kept: None, last: 0, _lock: None })
 }
 
 /// Starts the programs, and the store in front of them.
 async fn begin(settings: &Settings, health: &Health) -> Result<RunningStore> {
     let (clock, queues) = (clock_of(settings), Arc::new(Queues::new(settings.peek)));
     let (program, patience, shards) = (settings.program.clone(), settings.cq_timeout, settings.shards);
-    let Begun { cqs, kept, last, _lock } = match &settings.journal {
+    let Begun { cqs, node, kept, last, _lock } = match &settings.journal {
+        _ if settings.beside_node => begin_beside_node(settings, (&clock, &queues)).await?,
         Some(files) => begin_kept(settings, health, files, (&clock, &queues)).await?,
-        None => Begun { cqs: Cq::start_all(&program, shards.count(), patience)?, kept: None, last: 0, _lock: None },
+        None => begin_without_journal(settings)?,
     };
     let memory = settings.memory;
-    let (store, ends) = store::start(Start { program, patience, shards, cqs, queues, clock, kept, memory });
+    let (store, ends) = store::start(Start { program, patience, shards, cqs, node, queues, clock, kept, memory });
     finish_all(&store, last).await;
     Ok(RunningStore { store, ends, _lock })
 }
@@ -306,7 +337,10 @@ async fn begin(settings: &Settings, health: &Health) -> Result<RunningStore> {
 /// Brings to its end what was cut off, before anybody is served.
 async fn finish_all(store: &Store, last: Moment) {
     book::prepare(store).await;
-    retention::tell_jump(store, last).await;
+    // A chain's time goes on where nobody asks for anything.
+    if !store.is_of_chain() {
+        retention::tell_jump(store, last).await;
+    }
     store.queues().parts().settle_all();
     moves::finish(store).await;
     purges::finish(store).await;
@@ -361,7 +395,7 @@ async fn answer(settings: &Settings, started: Started, signals: &mut Signals) ->
 }
 
 /// Tells systemd, where it started this.
-fn notify_supervisor(state: sd_notify::NotifyState<'_>) {
+pub fn notify_supervisor(state: sd_notify::NotifyState<'_>) {
     if let Err(error) = sd_notify::notify(false, &[state]) {
         tracing::warn!("the supervisor can't be told: {error}");
     }
@@ -407,7 +441,7 @@ async fn why(ends: &mut Ends) -> String {
 }
 
 /// Writes a line on standard output. Where nobody reads it, it is lost.
-fn say(line: &str) {
+pub fn say(line: &str) {
     let mut out = std::io::stdout();
     let _ = writeln!(out, "{line}").and_then(|()| out.flush());
 }

@@ -122,6 +122,7 @@ impl Upgrade<'_> {
     fn start(&self, queues: Arc<Queues>, replayed: Vec<Replayed>) -> (Store, Ends) {
         let begun = replayed.iter().map(|one| (one.line, one.number)).collect();
         store::start(Start {
+            node: None,
             program: self.program.into(),
             patience: self.patience,
             shards: self.files.shards(),

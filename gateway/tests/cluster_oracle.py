@@ -267,6 +267,7 @@ def lines_of(party: Any, step: Step) -> list[dict[str, Any]]:
         event = dict(step.event)
         if event["op"] in ("arrive", "ask"):
             event["at"] = party
+            event.pop("stream", None)
         elif event["op"] == "take":
             event = {"op": "take", "from": event["from"], "to": party}
         elif event["op"] == "detect":

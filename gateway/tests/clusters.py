@@ -3,6 +3,7 @@
 from __future__ import annotations
 
 import base64
+import itertools
 import json
 import os
 import shutil
@@ -26,12 +27,21 @@ def has_etcd() -> bool:
     return shutil.which("etcd") is not None
 
 
+# Below those that the system gives to connections. Each worker of pytest has 1,500 of its own.
+_worker = int(os.environ.get("PYTEST_XDIST_WORKER", "gw0")[2:]) % 8
+_ports = itertools.cycle(range(20_000 + 1_500 * _worker, 21_500 + 1_500 * _worker))
+
+
+def is_free(port: int) -> bool:
+    try:
+        socket.create_server(("127.0.0.1", port)).close()
+        return True
+    except OSError:
+        return False
+
+
 def free_ports(count: int) -> list[int]:
-    listeners = [socket.create_server(("127.0.0.1", 0)) for _ in range(count)]
-    ports = [listener.getsockname()[1] for listener in listeners]
-    for listener in listeners:
-        listener.close()
-    return ports
+    return list(itertools.islice(filter(is_free, _ports), count))
 
 
 def run(*words: str, timeout: float = 30) -> subprocess.CompletedProcess:
@@ -179,6 +189,7 @@ class Node:
         self.process, self.log, self.trace, self.proxy = process, log, trace, proxy
         self.server = 0
         self.port = 0
+        self.gateway_port = 0
         self.may_fail = False
 
     def look(self) -> bool:
@@ -189,31 +200,51 @@ class Node:
                 self.server, self.port = int(words[1]), int(words[-1].rsplit(":", 1)[1])
         return self.server > 0
 
+    def logs(self, said: str) -> None:
+        """Waits until its log has this: what a client sees may come first."""
+        wait(10, lambda: said in self.log.read_text(), f"not logged: {said}")
+
+    def children(self) -> list[int]:
+        """The processes that it started."""
+        threads = Path(f"/proc/{self.process.pid}/task").glob("*/children")
+        return [int(child) for one in threads for child in one.read_text().split()]
+
     def child(self) -> int:
         """The process of its server."""
-        threads = Path(f"/proc/{self.process.pid}/task").glob("*/children")
-        return next(int(child) for one in threads for child in one.read_text().split())
+        return next(child for child in self.children() if not is_gateway(child))
+
+    def gateway(self) -> int | None:
+        """The process of its gateway, if there is one."""
+        return next((child for child in self.children() if is_gateway(child)), None)
 
     def stop(self) -> None:
-        """The server is stopped, too, as on a machine that stands still."""
-        for one in (self.process.pid, self.child()):
+        """Server and gateway are stopped, too, as on a machine that stands still."""
+        for one in (self.process.pid, *self.children()):
             os.kill(one, signal.SIGSTOP)
 
     def go_on(self) -> None:
-        for one in (self.child(), self.process.pid):
+        for one in (*self.children(), self.process.pid):
             os.kill(one, signal.SIGCONT)
 
     def lives(self) -> bool:
         return self.process.poll() is None
 
 
+def is_gateway(process: int) -> bool:
+    try:
+        return b"--beside-node" in Path(f"/proc/{process}/cmdline").read_bytes().split(b"\0")
+    except OSError:
+        return False
+
+
 class Cluster:
     """A cluster on this machine."""
 
     def __init__(self, room: Path, size: int = 3, members: int = 1, masters: int = 2, absent: tuple[int, ...] = (),
-                 programs: Callable[[str], str] = lambda name: program(), breakable: bool = False) -> None:
+                 programs: Callable[[str], str] = lambda name: program(), breakable: bool = False,
+                 gateways: bool = False) -> None:
         self.between: list[Proxy] = []
-        self.room, self.size, self.programs = room, size, programs
+        self.room, self.size, self.programs, self.gateways = room, size, programs, gateways
         self.etcd = Etcd(room, members)
         made = run("cluster", "create", "--cluster", NAME, "--etcd", ",".join(self.etcd.urls), "--nodes", str(size))
         assert made.returncode == 0, made.stderr
@@ -249,11 +280,20 @@ class Cluster:
         urls = proxy.url if proxy else ",".join(self.etcd.urls)
         trace = self.room / f"{name}.trace"
         how = ["--first", str(first)] if first else ["--join"]
+        [port] = free_ports(1)
+        if self.gateways:
+            how += ["--gateway", f"127.0.0.1:{port}"]
         process, log = self._start(name, "node", "--cluster", NAME, "--etcd", urls, "--listen", "127.0.0.1:0",
                                    "--trace", str(trace), *how)
         node = Node(process, log, trace, proxy)
+        node.gateway_port = port
         self.nodes.append(node)
         return node
+
+    def gateway_acts(self, server: int) -> bool:
+        """Whether the gateway of that server's node says that it works."""
+        beat = self.etcd.read(f"{self.root}/beat/{server:010}")
+        return any(json.loads(one).get("gateway") == "acts" for one in beat.values())
 
     def put_between(self, node: Node) -> None:
         """From now on others find a proxy where the node is registered: their links to it can be broken."""

@@ -11,7 +11,7 @@ from pathlib import Path
 import pytest
 
 from clusters import NAME, Cluster, Etcd, free_ports, has_etcd, run, wait
-from started import gateway_program, program
+from started import boto3_client, gateway_program, program
 
 pytestmark = pytest.mark.skipif(not has_etcd(), reason="etcd isn't there: Debian's etcd-server has it")
 
@@ -39,6 +39,9 @@ def test_addresses_of_other_machines_are_refused(etcd):
     which = ["--cluster", NAME, "--etcd", etcd.urls[0]]
     assert run("cluster", "create", *which, "--nodes", "1").returncode == 0
     assert "isn't on this machine" in refused("node", *which, "--listen", "0.0.0.0:0", "--first", "1")
+    node = ["node", *which, "--listen", "127.0.0.1:0", "--first", "1", "--gateway"]
+    assert "its gateway has a loopback address" in refused(*node, "10.0.0.1:9324")
+    assert "has no port" in refused(*node, "127.0.0.1:0")
     assert "isn't on this machine" in refused("cluster", "status", "--cluster", NAME, "--etcd", "http://10.0.0.1:2379")
     assert "no member of etcd answers" in refused("cluster", "status", "--cluster", NAME, "--etcd", f"http://127.0.0.1:{free_ports(1)[0]}")
 
@@ -80,15 +83,16 @@ def test_the_status_of_a_cluster(tmp_path):
         assert [server["hears"] for server in status["servers"]] == [[2, 3], [1, 3], [1, 2]]
         assert all(server["is_full"] for server in status["servers"]) and status["waits"] is None
         rows = run(*words).stdout.splitlines()
-        assert rows[1].split() == ["server", "address", "role", "count", "lag", "beats", "hears", "full", "acts"]
+        assert rows[1].split() == ["server", "address", "role", "count", "lag", "beats", "hears", "full", "acts", "gateway"]
         assert rows[2].split()[0:3:2] == ["1", "head"]
     finally:
         cluster.end()
 
 
-def test_a_whole_cluster_goes_up_and_down(tmp_path):
-    folder = tmp_path / "up"
-    words = [gateway_program(), "cluster", "up", "--nodes", "2", "--folder", str(folder)]
+def test_a_whole_cluster_goes_up_serves_and_goes_down(tmp_path):
+    folder, config = tmp_path / "up", tmp_path / "gateways.toml"
+    config.write_text('[[queue]]\nname = "declared"\n')
+    words = [gateway_program(), "cluster", "up", "--nodes", "2", "--folder", str(folder), "--gateway-config", str(config)]
     started = subprocess.Popen(words, env={**os.environ, "HOBBYCHAIR_CQ": program()}, stdout=subprocess.PIPE, text=True)
     said = []
     for line in started.stdout:
@@ -96,8 +100,14 @@ def test_a_whole_cluster_goes_up_and_down(tmp_path):
         if "the cluster is up" in line:
             break
     assert "tail" in "".join(said) and started.poll() is None, said
+    url = next(line.split()[-1] for line in said if line.startswith("to send requests: "))
+    sqs = boto3_client(url, read_timeout=60)
+    queue = sqs.get_queue_url(QueueName="declared")["QueueUrl"]
+    sqs.send_message(QueueUrl=queue, MessageBody="a")
+    [message] = sqs.receive_message(QueueUrl=queue, WaitTimeSeconds=2)["Messages"]
+    assert (message["Body"], queue) == ("a", f"{url}/000000000000/declared")
     children = children_of(started.pid)
-    assert len(children) >= 5
+    assert len(children) >= 9
     started.send_signal(signal.SIGINT)
     assert started.wait(10) == 0
     wait(5, lambda: not any(Path(f"/proc/{child}").exists() for child in children), "processes are left")

@@ -172,7 +172,8 @@ fn how_it_ended(process: &Mutex<std::process::Child>) -> String {
     "it closed its output and went on".into()
 }
 
-fn said(status: ExitStatus) -> String {
+/// How a process ended.
+pub fn said(status: ExitStatus) -> String {
     use std::os::unix::process::ExitStatusExt;
     match (status.code(), status.signal()) {
         (Some(code), _) => format!("it ended with status {code}"),

@@ -6,7 +6,7 @@ use std::path::PathBuf;
 use anyhow::{bail, Result};
 use clap::{ArgGroup, Args, Subcommand};
 
-use crate::node::{self, Beginning, End};
+use crate::node::{self, gateway, Beginning, End};
 use crate::records::Cluster;
 use crate::roster::MOST_MEMBERS;
 use crate::{master, say, status, up};
@@ -42,6 +42,12 @@ pub struct Node {
     /// Join the chain, with the next number
     #[arg(long)]
     join: bool,
+    /// Where this node's gateway listens, once its server is the head [default: it has none]
+    #[arg(long, value_name = "ADDRESS:PORT")]
+    gateway: Option<SocketAddr>,
+    /// The gateway's file of options, as serve --config has it
+    #[arg(long, value_name = "FILE", requires = "gateway")]
+    gateway_config: Option<PathBuf>,
     /// The program cq [default: cq of the path]
     #[arg(long, value_name = "PROGRAM", env = "HOBBYCHAIR_CQ")]
     pub cq: Option<String>,
@@ -90,6 +96,9 @@ pub enum OfCluster {
         /// A new folder for etcd and for what the processes say
         #[arg(long, value_name = "FOLDER")]
         folder: PathBuf,
+        /// The gateways' file of options, as serve --config has it
+        #[arg(long, value_name = "FILE")]
+        gateway_config: Option<PathBuf>,
         /// The program cq [default: cq of the path]
         #[arg(long, value_name = "PROGRAM", env = "HOBBYCHAIR_CQ")]
         cq: Option<String>,
@@ -113,7 +122,9 @@ fn runtime(threads: usize) -> Result<tokio::runtime::Runtime> {
 /// Runs a node, with the program cq.
 pub fn run_node(node: Node, program: String) -> Result<()> {
     let beginning = node.first.map_or(Beginning::Join, Beginning::First);
-    let settings = node::Settings { listen: node.listen, beginning, program, trace: node.trace };
+    let config = node.gateway_config;
+    let gateway = node.gateway.map(|listen| gateway::Settings { listen, config });
+    let settings = node::Settings { listen: node.listen, beginning, program, gateway, trace: node.trace };
     let runtime = runtime(2)?;
     let end = runtime.block_on(async { node::run(node.which.find().await?, settings).await })?;
     runtime.shutdown_background();
@@ -149,9 +160,10 @@ pub fn run_cluster(asked: OfCluster, program: Option<String>) -> Result<()> {
                 status::log(&which.find().await?).await?.iter().for_each(|line| say(line));
                 Ok(())
             }
-            OfCluster::Up { nodes, folder, .. } => {
+            OfCluster::Up { nodes, folder, gateway_config, .. } => {
                 test_size(nodes)?;
-                up::up(nodes, &folder, &program.unwrap_or_else(|| "cq".into())).await
+                let program = program.unwrap_or_else(|| "cq".into());
+                up::up(nodes, &folder, &program, gateway_config.as_deref()).await
             }
         }
     })

@@ -13,6 +13,8 @@ pub const NO_MEMORY: u32 = 20;
 pub const NOT_HEAD: u32 = 40;
 /// The message isn't the next one of its link, or its sender is gone.
 pub const NOT_NEXT: u32 = 45;
+/// An arrival before it was refused, and its stream has ended.
+pub const STREAM_ENDED: u32 = 49;
 /// What was read of the message is let go.
 pub const BEGIN_AGAIN: u32 = 48;
 /// The piece isn't one of a message.
@@ -46,8 +48,9 @@ pub struct Place {
 /// What a process is told.
 #[derive(Clone, Debug, PartialEq, Eq)]
 pub enum Command {
-    /// A request, as it is written.
+    /// A request, as it is written, and its stream: one that is refused ends its stream and all lower ones.
     Arrive {
+        stream: u64,
         clock: u64,
         request: Bytes,
     },
@@ -64,15 +67,26 @@ pub enum Command {
     Join(u32),
     More(Party),
     Gone(u32),
+    /// The next chunk of a copy of the server's store.
+    Save,
 }
 
 /// What a process tells.
 #[derive(Clone, Debug, PartialEq, Eq)]
 pub enum Response {
-    Put { to: Party, place: Place, piece: Bytes },
+    Put {
+        to: Party,
+        place: Place,
+        piece: Bytes,
+    },
     Refused(u32),
     Unread(u32),
     Waiting(Party),
+    /// A chunk of a copy that was made at so many entries. An empty one ends the copy.
+    Saved {
+        count: u64,
+        chunk: Bytes,
+    },
     Done(Standing),
     Heard,
 }
@@ -91,7 +105,8 @@ pub struct Standing {
 impl Command {
     pub fn frame(&self) -> Vec<u8> {
         match self {
-            Command::Arrive { clock, request } => frame(0, |out| {
+            Command::Arrive { stream, clock, request } => frame(0, |out| {
+                out.number64(*stream);
                 out.number64(*clock);
                 out.extend_from_slice(request);
             }),
@@ -106,6 +121,7 @@ impl Command {
             Command::Join(server) => frame(4, |out| out.number32(*server)),
             Command::More(to) => frame(5, |out| put_party(out, *to)),
             Command::Gone(server) => frame(6, |out| out.number32(*server)),
+            Command::Save => frame(7, |_| {}),
         }
     }
 }
@@ -122,6 +138,10 @@ impl Response {
             Response::Refused(code) => frame(1, |out| out.number32(*code)),
             Response::Unread(code) => frame(2, |out| out.number32(*code)),
             Response::Waiting(party) => frame(3, |out| put_party(out, *party)),
+            Response::Saved { count, chunk } => frame(4, |out| {
+                out.number64(*count);
+                out.run(chunk);
+            }),
             Response::Done(standing) => frame(5, |out| {
                 [standing.count, standing.acked, standing.last].into_iter().for_each(|number| out.number64(number));
                 [standing.is_head, standing.is_acting, standing.is_full].into_iter().for_each(|flag| out.flag(flag));
@@ -142,6 +162,7 @@ impl Response {
             1 => Response::Refused(reader.number32()?),
             2 => Response::Unread(reader.number32()?),
             3 => Response::Waiting(party(&mut reader)?),
+            4 => Response::Saved { count: reader.number64()?, chunk: reader.run()? },
             5 => Response::Done(standing(&mut reader)?),
             6 => Response::Heard,
             _ => return Err(Malformed("its kind is none of a response")),
@@ -152,7 +173,7 @@ impl Response {
 
     /// Whether it ends the answer to a command.
     pub fn is_last(&self) -> bool {
-        !matches!(self, Response::Put { .. } | Response::Waiting(_))
+        !matches!(self, Response::Put { .. } | Response::Waiting(_) | Response::Saved { .. })
     }
 }
 
@@ -233,6 +254,10 @@ mod tests {
         assert_eq!(Command::Detect(7).frame(), [6, 0, 0, 0, 1, 3, 7, 0, 0, 0]);
         let more = Command::More(Party::Server(258)).frame();
         assert_eq!(more, [7, 0, 0, 0, 1, 5, 2, 2, 1, 0, 0]);
+        assert_eq!(Command::Save.frame(), [2, 0, 0, 0, 1, 7]);
+        let request = Bytes::from_static(&[9]);
+        let arrive = Command::Arrive { stream: 3, clock: 258, request }.frame();
+        assert_eq!(arrive, [19, 0, 0, 0, 1, 0, 3, 0, 0, 0, 0, 0, 0, 0, 2, 1, 0, 0, 0, 0, 0, 0, 9]);
     }
 
     #[test]
@@ -245,7 +270,8 @@ mod tests {
         let standing = Standing { count: 5, acked: 4, last: 3, is_head: true, is_acting: false, is_full: true };
         let puts = [put(1, 0), put(2, 0), put(2, 1), put(2, 2), put(3, 0)];
         let others = [Response::Refused(20), Response::Unread(91), Response::Waiting(Party::Clients), Response::Heard];
-        for response in puts.into_iter().chain(others).chain([Response::Done(standing)]) {
+        let saved = Response::Saved { count: 3, chunk: Bytes::from_static(b"chunk") };
+        for response in puts.into_iter().chain(others).chain([saved, Response::Done(standing)]) {
             let bytes = Bytes::from(response.frame()).slice(4..);
             assert_eq!(Response::read(bytes), Ok(response));
         }

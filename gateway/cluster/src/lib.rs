@@ -2,9 +2,11 @@
 //!
 //! A node (`node`) runs one `cq server` (`child`, `commands`) and carries what it puts to the others by links (`link`,
 //! `wire`). A candidate for the master (`master`) appends lines (`decision`, of what `silence` and `roster` say) to a log
-//! in etcd (`etcd`, `records`). Two rules are kept: no clock and no lease is part of what keeps data safe, and a server
+//! in etcd (`etcd`, `records`). The node of the head starts the gateway that acts (`node/gateway`, `pipe`), and fronts find
+//! it (`acting`). Two rules are kept: no clock and no lease is part of what keeps data safe, and a server
 //! ends only because the log says so, or by a fault of its own.
 
+pub mod acting;
 mod child;
 mod clock;
 pub mod command_line;
@@ -14,7 +16,8 @@ mod etcd;
 mod link;
 mod master;
 mod node;
-mod parts;
+pub mod parts;
+pub mod pipe;
 mod records;
 mod roster;
 mod silence;

@@ -22,6 +22,11 @@ pub struct Malformed(pub &'static str);
 pub struct Reader(Bytes);
 
 impl Reader {
+    /// Of any bytes.
+    pub fn of(bytes: Bytes) -> Reader {
+        Reader(bytes)
+    }
+
     /// Of a frame's bytes: the version is read.
     pub fn of_frame(bytes: Bytes) -> Result<Reader, Malformed> {
         let mut reader = Reader(bytes);
@@ -173,6 +178,12 @@ impl<R: AsyncRead + Unpin> Frames<R> {
     /// The same, with frames that may be longer or shorter from now on.
     pub fn with_limit(self, limit: usize) -> Frames<R> {
         Frames { limit, ..self }
+    }
+
+    /// Where it reads.
+    #[cfg(test)]
+    pub fn reader(&mut self) -> &mut R {
+        &mut self.from
     }
 
     /// The next frame. The end of the connection is an error, also between two frames.

@@ -93,6 +93,19 @@ pub struct Beat {
     pub hears: Vec<u32>,
     /// So many clients are connected.
     pub clients: usize,
+    /// How far the gateway beside it is, if it is the head and has one.
+    #[serde(default, skip_serializing_if = "Option::is_none")]
+    pub gateway: Option<GatewayPhase>,
+}
+
+/// How far the gateway is that a head's node has started.
+#[derive(Clone, Copy, Debug, PartialEq, Eq, Serialize, Deserialize)]
+#[serde(rename_all = "snake_case")]
+pub enum GatewayPhase {
+    /// It is being started, or told the store.
+    Begins,
+    /// It has the store, and says that it works.
+    Acts,
 }
 
 /// A process that has a number.
@@ -101,6 +114,9 @@ pub struct Registration {
     /// Made at random by the process.
     pub nonce: String,
     pub address: SocketAddr,
+    /// Where its gateway listens once its server is the head, if it has one.
+    #[serde(default, skip_serializing_if = "Option::is_none")]
+    pub gateway: Option<SocketAddr>,
 }
 
 /// The keys of a cluster.
@@ -319,6 +335,20 @@ mod tests {
         assert_eq!(text(&line), r#"{"take":{"server":3,"number":7,"piece":"AQs="}}"#);
         assert_eq!(serde_json::from_str::<Line>(&text(&line)).unwrap(), line);
         assert!(serde_json::from_str::<Line>(r#"{"take":{"server":3,"number":7,"piece":"?"}}"#).is_err());
+    }
+
+    #[test]
+    fn a_node_without_a_gateway_says_nothing_of_one() {
+        let address = "127.0.0.1:7001".parse().unwrap();
+        let without = Registration { nonce: "n".into(), address, gateway: None };
+        assert_eq!(text(&without), r#"{"nonce":"n","address":"127.0.0.1:7001"}"#);
+        let with = Registration { gateway: Some(address), ..without.clone() };
+        for one in [without, with] {
+            assert_eq!(serde_json::from_str::<Registration>(&text(&one)).unwrap(), one);
+        }
+        let beat = Beat { gateway: Some(GatewayPhase::Acts), ..Beat::default() };
+        assert!(text(&beat).ends_with(r#""gateway":"acts"}"#) && !text(&Beat::default()).contains("gateway"));
+        assert_eq!(serde_json::from_str::<Beat>(&text(&Beat::default())).unwrap(), Beat::default());
     }
 
     #[test]

@@ -10,12 +10,15 @@ use tokio::time::sleep;
 
 use crate::decision::View;
 use crate::etcd::{Entry, Operation};
-use crate::records::{self, last_number, Beat, Chain, Cluster, Line, Registration};
+use crate::records::{self, last_number, Beat, Chain, Cluster, GatewayPhase, Line, Registration};
 use crate::roster::Roster;
 use crate::silence::Silence;
 
 /// Beats are looked at for so long.
 const LOOK: Duration = Duration::from_millis(1200);
+
+/// What is said of a server, for people.
+const COLUMNS: usize = 10;
 
 /// One server.
 #[derive(Debug, Serialize)]
@@ -34,6 +37,8 @@ struct Server {
     is_acting: bool,
     is_condemned: bool,
     clients: usize,
+    /// How far its gateway is, by its last beat.
+    gateway: Option<GatewayPhase>,
 }
 
 /// A whole cluster.
@@ -118,6 +123,7 @@ fn servers(look: &Look, beats: impl Fn(&u32) -> bool) -> Vec<Server> {
             is_acting: beat.is_acting,
             is_condemned: look.condemned.contains(&number),
             clients: beat.clients,
+            gateway: beat.gateway,
         }
     };
     all.map(server).collect()
@@ -207,10 +213,11 @@ impl Status {
     pub fn columns(&self) -> String {
         let mut out = String::new();
         let _ = writeln!(out, "cluster {} {}, line {} of the log", self.cluster, self.incarnation, self.line);
-        let head = ["server", "address", "role", "count", "lag", "beats", "hears", "full", "acts"].map(String::from);
-        let rows: Vec<[String; 9]> = std::iter::once(head).chain(self.servers.iter().map(row)).collect();
+        let head = ["server", "address", "role", "count", "lag", "beats", "hears", "full", "acts", "gateway"];
+        let head = head.map(String::from);
+        let rows: Vec<[String; COLUMNS]> = std::iter::once(head).chain(self.servers.iter().map(row)).collect();
         let width = |column: usize| rows.iter().map(|row| row[column].len()).max().unwrap_or(0);
-        let widths: Vec<usize> = (0..9).map(width).collect();
+        let widths: Vec<usize> = (0..COLUMNS).map(width).collect();
         for row in &rows {
             let cells: Vec<String> = row.iter().zip(&widths).map(|(cell, width)| format!("{cell:width$}")).collect();
             let _ = writeln!(out, "{}", cells.join("  ").trim_end());
@@ -225,7 +232,7 @@ impl Status {
     }
 }
 
-fn row(server: &Server) -> [String; 9] {
+fn row(server: &Server) -> [String; COLUMNS] {
     let yes = |is: bool| if is { "yes" } else { "no" }.to_string();
     let hears: Vec<String> = server.hears.iter().map(ToString::to_string).collect();
     [
@@ -238,6 +245,11 @@ fn row(server: &Server) -> [String; 9] {
         hears.join(","),
         yes(server.is_full),
         yes(server.is_acting),
+        match server.gateway {
+            Some(GatewayPhase::Acts) => "acts".into(),
+            Some(GatewayPhase::Begins) => "begins".into(),
+            None => "-".into(),
+        },
     ]
 }
 

@@ -7,6 +7,7 @@ use std::process::{Child, Command, Stdio};
 use std::time::{Duration, Instant};
 
 use anyhow::{bail, Context, Result};
+use tokio::net::TcpStream;
 use tokio::signal::unix::{signal, SignalKind};
 use tokio::time::sleep;
 
@@ -23,6 +24,9 @@ const ETCD: Duration = Duration::from_secs(20);
 /// So long the nodes may take.
 const NODES: Duration = Duration::from_secs(30);
 
+/// So long the front may take.
+const FRONT: Duration = Duration::from_secs(10);
+
 /// A process of the cluster. It is ended with this one.
 struct Process {
     name: String,
@@ -37,8 +41,9 @@ impl Drop for Process {
     }
 }
 
-/// Starts etcd, two candidates for the master and so many nodes in a folder, and runs until a signal comes.
-pub async fn up(nodes: u32, folder: &Path, program: &str) -> Result<()> {
+/// Starts etcd, two candidates for the master, so many nodes with gateways, and a front, in a folder, and runs until a signal
+/// comes.
+pub async fn up(nodes: u32, folder: &Path, program: &str, gateway_config: Option<&Path>) -> Result<()> {
     let mut interrupts = signal(SignalKind::interrupt())?;
     let mut terminations = signal(SignalKind::terminate())?;
     make_folder(folder)?;
@@ -48,20 +53,30 @@ pub async fn up(nodes: u32, folder: &Path, program: &str) -> Result<()> {
     let mut processes = vec![start_etcd(folder, &url, peers)?];
     create(&urls, nodes).await?;
     let this = std::env::current_exe()?;
-    let start = |name: &str, words: &[&str]| -> Result<Process> {
+    let command = |words: &[&str]| {
         let mut command = Command::new(&this);
         command.args(words).args(["--cluster", NAME, "--etcd", &url, "--cq", program]);
-        begin(command, folder, name)
+        command
     };
     for number in 1..=nodes {
-        let first = number.to_string();
-        processes.push(start(&format!("node-{number}"), &["node", "--listen", "127.0.0.1:0", "--first", &first])?);
+        let (first, gateway) = (number.to_string(), format!("127.0.0.1:{}", free_port()?));
+        let mut node = command(&["node", "--listen", "127.0.0.1:0", "--first", &first, "--gateway", &gateway]);
+        if let Some(config) = gateway_config {
+            node.arg("--gateway-config").arg(config);
+        }
+        processes.push(begin(node, folder, &format!("node-{number}"))?);
     }
     for number in 1..=2 {
-        processes.push(start(&format!("master-{number}"), &["master"])?);
+        processes.push(begin(command(&["master"]), folder, &format!("master-{number}"))?);
     }
+    let front = free_port()?;
+    let words = ["serve", "--host", "127.0.0.1", "--port", &front.to_string()];
+    processes.push(begin(command(&words), folder, "front")?);
     let cluster = Cluster::find(NAME, &urls).await?;
     tell_of(&cluster, nodes, &url, folder).await?;
+    wait_for(front, folder).await?;
+    say(&format!("to send requests: http://127.0.0.1:{front}"));
+    say("the cluster is up, until this is interrupted");
     let mut rounds = tokio::time::interval(Duration::from_millis(500));
     loop {
         tokio::select! {
@@ -158,8 +173,22 @@ async fn tell_of(cluster: &Cluster, nodes: u32, url: &str, folder: &Path) -> Res
         }
     }
     say(&format!("to look at it: hobbychair cluster status --cluster {NAME} --etcd {url}"));
-    say(&format!("to add a node: hobbychair node --cluster {NAME} --etcd {url} --listen 127.0.0.1:0 --join"));
-    say("the cluster is up, until this is interrupted");
+    let port = free_port()?;
+    say(&format!(
+        "to add a node: hobbychair node --cluster {NAME} --etcd {url} --listen 127.0.0.1:0 --gateway 127.0.0.1:{port} --join"
+    ));
+    Ok(())
+}
+
+/// Waits until something listens at the front's port.
+async fn wait_for(front: u16, folder: &Path) -> Result<()> {
+    let begun = Instant::now();
+    while TcpStream::connect((Ipv4Addr::LOCALHOST, front)).await.is_err() {
+        if begun.elapsed() > FRONT {
+            bail!("the front doesn't begin: {} has what it says", folder.display());
+        }
+        sleep(Duration::from_millis(50)).await;
+    }
     Ok(())
 }
 

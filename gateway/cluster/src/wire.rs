@@ -4,6 +4,7 @@ use bytes::Bytes;
 
 use crate::commands::Place;
 use crate::parts::{frame, Malformed, Parts, Reader};
+use crate::pipe::RequestName;
 
 /// The first frame of a connection isn't longer: a stranger gets no more memory.
 pub const GREETING_LIMIT: usize = 64 << 10;
@@ -47,7 +48,8 @@ pub enum Frame {
     /// An answer, as its server put it.
     Answer { message: Bytes },
     /// Nothing of the stream is taken from here on, by the number of a refusal.
-    Refused { stream: u64, code: u32 },
+    /// The first request that was refused is told to gateways alone, by their pipe.
+    Refused { stream: u64, code: u32, request: Option<RequestName> },
     /// Why the connection ends.
     Away { why: String },
 }
@@ -99,7 +101,7 @@ impl Frame {
                 out.flag(*is_acting);
             }),
             Frame::Answer { message } => frame(19, |out| out.run(message)),
-            Frame::Refused { stream, code } => frame(20, |out| {
+            Frame::Refused { stream, code, .. } => frame(20, |out| {
                 out.number64(*stream);
                 out.number32(*code);
             }),
@@ -128,7 +130,7 @@ impl Frame {
             17 => Frame::Received { frame: from.number64()? },
             18 => Frame::Standing { server: from.server()?, is_head: from.flag()?, is_acting: from.flag()? },
             19 => Frame::Answer { message: from.run()? },
-            20 => Frame::Refused { stream: from.number64()?, code: from.number32()? },
+            20 => Frame::Refused { stream: from.number64()?, code: from.number32()?, request: None },
             21 => Frame::Away { why: from.text()? },
             _ => return Err(Malformed("its kind is none of a frame")),
         };
@@ -183,7 +185,7 @@ mod tests {
             Frame::Received { frame: 9 },
             Frame::Standing { server: 1, is_head: true, is_acting: false },
             Frame::Answer { message: piece },
-            Frame::Refused { stream: 1, code: 40 },
+            Frame::Refused { stream: 1, code: 40, request: None },
             Frame::Away { why: "é".into() },
         ]
     }

@@ -159,7 +159,9 @@ impl Actions {
     pub async fn perform(&self, request: Box<Request>, caller: &Caller) -> Result<Performed, SqsError> {
         let name = request.queue().cloned();
         let performed = self.dispatch(request, caller).await;
-        let is_durable = performed.as_ref().is_ok_and(|performed| performed.is_durable);
+        // That there is nothing to hand out may be what the tables say, too, which in a chain may be old.
+        let says_nothing = |performed: &Performed| self.store.is_of_chain() && performed.response.is_empty_receive();
+        let is_durable = performed.as_ref().is_ok_and(|performed| performed.is_durable && !says_nothing(performed));
         if !is_durable && !self.wait_until_durable(name).await {
             return Err(SqsError::store_is_gone());
         }

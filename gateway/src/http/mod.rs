@@ -2,7 +2,7 @@
 
 mod address;
 mod answers;
-mod bodies;
+pub mod bodies;
 mod connections;
 mod framing;
 mod places;
@@ -23,10 +23,12 @@ use uuid::Uuid;
 use crate::access::{Identity, Keys, Signable};
 use crate::actions::{Actions, Caller};
 use crate::budget::{Budget, Share};
+use crate::clock::Moment;
 use crate::errors::SqsError;
 use crate::metrics::Metrics;
 use crate::presence::Presence;
 use crate::repeats::{is_repeat, CallFields, CallResult, IdempotencyKey, Lookup, OpenCall, Repeats};
+use crate::store::wanted_until;
 use crate::texts::QueueName;
 use crate::wire::requests::Action;
 use crate::wire::{self, Incoming, Protocol, Reply};
@@ -43,6 +45,11 @@ static TARGET: HeaderName = HeaderName::from_static("x-amz-target");
 static INVOCATION: HeaderName = HeaderName::from_static("amz-sdk-invocation-id");
 static SDK_REQUEST: HeaderName = HeaderName::from_static("amz-sdk-request");
 static REQUEST_ID: HeaderName = HeaderName::from_static("x-amzn-requestid");
+/// Fronts of a chain say by these until when they want an answer, in milliseconds of the chain's time, and that they asked before.
+static UNTIL: HeaderName = HeaderName::from_static("x-hobbychair-until");
+static AGAIN: HeaderName = HeaderName::from_static("x-hobbychair-again");
+/// The chain's time, in milliseconds: fronts take it out of answers.
+static TIME: HeaderName = HeaderName::from_static("x-hobbychair-time");
 static QUERY_ERROR: HeaderName = HeaderName::from_static("x-amzn-query-error");
 
 /// The longest head of a request, in bytes.
@@ -88,6 +95,8 @@ struct Call {
     base_url: String,
     /// Where repeats are told by nothing else.
     digest: Option<[u8; 32]>,
+    /// Up to which moment its answer is wanted, where a front says that.
+    until: Option<Moment>,
 }
 
 /// A call of which there may be repeats, and whether it says that it is one.
@@ -218,13 +227,18 @@ impl Connection {
             if action.returns_urls() { service.addresses.base_url(&head.headers, self.peer) } else { String::new() };
         self.share.set(request.bytes_kept(body.len()));
         let (request, request_id) = (Box::new(request), log.request_id);
+        let is_of_chain = service.actions.store().is_of_chain();
+        let until = is_of_chain.then(|| text_of(&head.headers, &UNTIL)?.parse().ok()).flatten();
         let mut call =
-            Call { connection: self, protocol, action, request, request_id, identity, base_url, digest: None };
+            Call { connection: self, protocol, action, request, request_id, identity, base_url, digest: None, until };
         if call.request.is_deduplicated_by_call() {
             call.digest = call.key(head, body).map(|key| key.0);
         }
         let key = if IdempotencyKey::applies_to(action) { call.key(head, body) } else { None };
-        let is_again = || text_of(&head.headers, &SDK_REQUEST).is_some_and(is_repeat);
+        let is_again = || {
+            let by_front = is_of_chain && head.headers.contains_key(&AGAIN);
+            by_front || text_of(&head.headers, &SDK_REQUEST).is_some_and(is_repeat)
+        };
         Ok(Next::Perform(Box::new(call), key.map(|key| Box::new(Repeatable { key, is_again: is_again() }))))
     }
 
@@ -261,10 +275,14 @@ impl Admitted {
     }
 
     async fn answer(self) -> Response<Bytes> {
-        let response = match self.next {
+        let mut response = match self.next {
             Next::Perform(call, repeatable) => response(call.answer(repeatable).await),
             Next::Answered(response) => *response,
         };
+        let store = self.connection.service.actions.store();
+        if store.is_of_chain() {
+            response.headers_mut().insert(&TIME, store.clock().now().into());
+        }
         self.connection.log(&self.log, response.status());
         response
     }
@@ -341,9 +359,9 @@ impl Call {
     }
 
     async fn perform(self: Box<Call>, presence: Presence) -> CallResult {
-        let Call { connection, protocol, action, request, request_id, identity, base_url, digest } = *self;
+        let Call { connection, protocol, action, request, request_id, identity, base_url, digest, until } = *self;
         let caller = Caller { base_url, presence, identity, call: digest, share: connection.share.clone() };
-        match connection.service.actions.perform(request, &caller).await {
+        match wanted_until(until, connection.service.actions.perform(request, &caller)).await {
             Ok(performed) => {
                 let is_worth_keeping = !performed.response.is_empty_receive();
                 let reply = protocol.answer(action, &performed.response, request_id.to_string());
@@ -357,7 +375,8 @@ impl Call {
     }
 }
 
-fn protocol_of(headers: &HeaderMap) -> Protocol {
+/// The protocol that a request speaks, by its head.
+pub fn protocol_of(headers: &HeaderMap) -> Protocol {
     if headers.contains_key(&TARGET) {
         Protocol::Json
     } else {
@@ -397,7 +416,7 @@ fn response(reply: Reply) -> Response<Bytes> {
 }
 
 /// A refusal. `closes`: the connection ends behind it.
-fn refused(protocol: Protocol, error: &SqsError, request_id: Uuid, closes: bool) -> Response<Bytes> {
+pub fn refused(protocol: Protocol, error: &SqsError, request_id: Uuid, closes: bool) -> Response<Bytes> {
     let mut response = response(protocol.refuse(error, request_id.to_string()));
     if closes {
         response.headers_mut().insert(CONNECTION, HeaderValue::from_static("close"));

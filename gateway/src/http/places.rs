@@ -32,7 +32,17 @@ impl Places {
     /// Raises the limit of open files to what so many connections need, if the system allows it. Otherwise fewer are
     /// served, and the log says how many.
     pub fn for_connections(wanted: u32) -> Result<Places, TooFewFiles> {
-        let needed = OWN + TURNED_AWAY + OPERATORS + u64::from(wanted);
+        Places::with_files(wanted, 1)
+    }
+
+    /// The same for a front, which has a connection to a gateway for each one of a client.
+    pub fn for_front(wanted: u32) -> Result<Places, TooFewFiles> {
+        Places::with_files(wanted, 2)
+    }
+
+    /// The same where each connection needs so many files.
+    fn with_files(wanted: u32, each: u64) -> Result<Places, TooFewFiles> {
+        let needed = OWN + TURNED_AWAY + OPERATORS + each * u64::from(wanted);
         let now = getrlimit(Resource::Nofile);
         let allowed = now.maximum.map_or(needed, |most| needed.min(most));
         let mut limit = now.current.unwrap_or(needed);
@@ -42,7 +52,7 @@ impl Places {
                 Err(error) => tracing::warn!("the limit of open files stays as it is: {error}"),
             }
         }
-        let places = Places::within(limit, wanted)?;
+        let places = Places::within(limit, wanted, each)?;
         if places.served < wanted {
             tracing::warn!(
                 "the system allows {limit} open files, so {} connections are served at once, and not {wanted}: \
@@ -53,11 +63,11 @@ impl Places {
         Ok(places)
     }
 
-    fn within(limit: u64, wanted: u32) -> Result<Places, TooFewFiles> {
+    fn within(limit: u64, wanted: u32, each: u64) -> Result<Places, TooFewFiles> {
         let free = limit.saturating_sub(OWN);
         let turned_away = TURNED_AWAY.min(free / 8).max(1);
         let operators = OPERATORS.min(free / 8).max(1);
-        let served = free.saturating_sub(turned_away + operators).min(u64::from(wanted));
+        let served = (free.saturating_sub(turned_away + operators) / each).min(u64::from(wanted));
         if served < LEAST.min(u64::from(wanted)) {
             return Err(TooFewFiles(limit));
         }
@@ -72,15 +82,16 @@ mod tests {
     #[test]
     fn files_of_its_own_are_kept_back() {
         let places = |served, turned_away, operators| Ok(Places { served, turned_away, operators });
-        assert_eq!(Places::within(1 << 20, 10_000), places(10_000, 256, 32));
-        assert_eq!(Places::within(10_384, 10_000), places(10_000, 256, 32));
-        assert_eq!(Places::within(1_024, 10_000), places(780, 116, 32));
-        assert_eq!(Places::within(256, 200), places(120, 20, 20));
-        assert_eq!(Places::within(1_024, 1), places(1, 116, 32));
-        assert_eq!(Places::within(100, 10_000), Err(TooFewFiles(100)));
-        for limit in 0..5_000 {
-            if let Ok(Places { served, turned_away, operators }) = Places::within(limit, 10_000) {
-                assert!(u64::from(served + turned_away + operators) + OWN <= limit);
+        assert_eq!(Places::within(1 << 20, 10_000, 1), places(10_000, 256, 32));
+        assert_eq!(Places::within(10_384, 10_000, 1), places(10_000, 256, 32));
+        assert_eq!(Places::within(1_024, 10_000, 1), places(780, 116, 32));
+        assert_eq!(Places::within(256, 200, 1), places(120, 20, 20));
+        assert_eq!(Places::within(1_024, 1, 1), places(1, 116, 32));
+        assert_eq!(Places::within(100, 10_000, 1), Err(TooFewFiles(100)));
+        assert_eq!(Places::within(20_000, 10_000, 2), places(9_808, 256, 32));
+        for (limit, each) in (0..5_000).flat_map(|limit| [(limit, 1), (limit, 2)]) {
+            if let Ok(Places { served, turned_away, operators }) = Places::within(limit, 10_000, each) {
+                assert!(each * u64::from(served) + u64::from(turned_away + operators) + OWN <= limit);
             }
         }
     }

@@ -290,7 +290,7 @@ impl Conversion {
         for one in &converted {
             if let ConvertedKind::Ask { raw, number, .. } = &one.kind {
                 count += 1;
-                let appended = lines::append_request(&mut lines, one.clock, 1, *number, raw);
+                let appended = lines::append_request(&mut lines, one.clock, 1, *number, raw.get().as_bytes());
                 appended.map_err(|error| OlderError::Io(error.to_string()))?;
             }
         }

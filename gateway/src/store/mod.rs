@@ -1,6 +1,7 @@
 //! The store: asks in, answers out. One task owns each program's pipe.
 
 mod admission;
+mod beside_node;
 #[cfg(test)]
 pub mod by_rules;
 mod figures;
@@ -14,10 +15,11 @@ use std::future::Future;
 use std::sync::Arc;
 
 use tokio::sync::{mpsc, oneshot};
+use tokio::task::JoinHandle;
 use uuid::Uuid;
 
 use crate::budget::Share;
-use crate::clock::Clock;
+use crate::clock::{Clock, Moment};
 use crate::errors::SqsError;
 use crate::handles::{Mark, Receipt};
 use crate::lines;
@@ -29,10 +31,34 @@ use crate::texts::{AttemptId, QueueKind, QueueName};
 use admission::Admission;
 use figures::Counters;
 
+pub use beside_node::{take_up as take_up_from_node, wait_for as wait_beside_node};
 pub use figures::Figures;
 pub use replay::{replay_all, ReplayError, Replayed, Tables};
-pub use task::{start, Ends, Kept, Start};
+pub use task::{start, Ends, Kept, NodeStart, Start};
 pub use told::{start as start_told, Ready, ToldError};
+
+tokio::task_local! {
+    /// Up to which moment who asks wants its answer, where that is known.
+    static WANTED_UNTIL: Option<Moment>;
+}
+
+/// Does something of which nothing new is asked behind that moment, if there is one.
+pub async fn wanted_until<F: Future>(moment: Option<Moment>, work: F) -> F::Output {
+    WANTED_UNTIL.scope(moment, work).await
+}
+
+/// Begins something beside that is wanted as long as what begins it.
+pub fn spawn_wanted<F>(work: F) -> JoinHandle<F::Output>
+where
+    F: Future + Send + 'static,
+    F::Output: Send,
+{
+    tokio::spawn(wanted_until(wanted_until_when(), work))
+}
+
+fn wanted_until_when() -> Option<Moment> {
+    WANTED_UNTIL.try_with(|moment| *moment).ok().flatten()
+}
 
 /// Operations that are performed one after the other, and where their answers go.
 struct Job {
@@ -40,6 +66,8 @@ struct Job {
     operations: Vec<Operation>,
     /// It doesn't wait where its queue is held.
     ignores_hold: bool,
+    /// What it asks for by itself isn't wanted behind this moment.
+    until: Option<Moment>,
     sender: AnswerSender,
 }
 
@@ -95,6 +123,20 @@ impl Operation {
         matches!(self, Operation::Hold | Operation::HoldForMove)
     }
 
+    /// Whether the tables may answer it.
+    fn may_be_of_tables(&self) -> bool {
+        !matches!(self, Operation::Hold | Operation::HoldForMove | Operation::Release)
+    }
+
+    /// Whether it is of no use once who asks for it waits no more.
+    fn is_for_client(&self) -> bool {
+        match self {
+            Operation::Ask(ask) | Operation::AskBeside(ask) => task::is_for_client(ask),
+            Operation::Change(_) => true,
+            _ => false,
+        }
+    }
+
     /// Whether it sends a copy of a message that another program has.
     fn is_copy(&self) -> bool {
         matches!(self, Operation::Ask(Ask::Send { cause: Cause::Move(_), .. }))
@@ -132,6 +174,8 @@ pub struct Store {
     clock: Arc<Clock>,
     /// The programs keep their lines themselves.
     is_kept: bool,
+    /// A chain of servers keeps the store, and a node carries what is asked.
+    is_of_chain: bool,
     admission: Arc<Admission>,
     counters: Arc<Counters>,
 }
@@ -148,6 +192,11 @@ impl Store {
     /// Whether the programs keep their lines themselves. Then all that is to outlive the gateway stands in their stores.
     pub fn is_kept(&self) -> bool {
         self.is_kept
+    }
+
+    /// Whether a chain of servers keeps the store.
+    pub fn is_of_chain(&self) -> bool {
+        self.is_of_chain
     }
 
     /// Whether the bound of memory is full.
@@ -204,7 +253,8 @@ impl Store {
         let count = operations.len();
         let (sender, answers) = oneshot::channel();
         // Where the task is gone, no answer comes.
-        let _ = self.jobs[place].send(Job { queue, operations, ignores_hold: true, sender: sender.into() });
+        let _ =
+            self.jobs[place].send(Job { queue, operations, ignores_hold: true, until: None, sender: sender.into() });
         async move { answers.await.unwrap_or_else(|_| (0..count).map(|_| Err(SqsError::store_is_gone())).collect()) }
     }
 
@@ -241,7 +291,7 @@ impl Store {
     pub async fn create(&self, queue: Arc<Queue>) -> Answer {
         let store = self.clone();
         // It goes on where its client goes.
-        let creating = tokio::spawn(async move {
+        let creating = spawn_wanted(async move {
             let (name, visibility, bytes) = {
                 let state = queue.state();
                 (state.entry.store, state.entry.attributes.visibility_timeout(), state.own_bytes())
@@ -270,7 +320,8 @@ impl Store {
         let count = operations.len();
         let (sender, answers) = oneshot::channel();
         let sender = AnswerSender { answers: sender, _share: share.cloned() };
-        let job = Job { queue: Some(queue.clone()), operations, ignores_hold, sender };
+        let until = wanted_until_when();
+        let job = Job { queue: Some(queue.clone()), operations, ignores_hold, until, sender };
         let answered = match self.jobs_of(&queue.name).send(job) {
             Ok(()) => answers.await.ok(),
             Err(_) => None,
@@ -383,7 +434,7 @@ impl Store {
 fn submit_beside(jobs: &mpsc::UnboundedSender<Job>, operations: Vec<Operation>) -> oneshot::Receiver<Answers> {
     let (sender, answers) = oneshot::channel();
     // Where the task is gone, no answer comes.
-    let _ = jobs.send(Job { queue: None, operations, ignores_hold: true, sender: sender.into() });
+    let _ = jobs.send(Job { queue: None, operations, ignores_hold: true, until: None, sender: sender.into() });
     answers
 }
 
@@ -510,8 +561,8 @@ impl Drop for Held {
         let queue = Some(self.queue.clone());
         // Where the task is gone, nothing waits any more.
         let jobs = self.store.jobs_of(&self.queue.name);
-        let _ =
-            jobs.send(Job { queue, operations: vec![Operation::Release], ignores_hold: true, sender: sender.into() });
+        let operations = vec![Operation::Release];
+        let _ = jobs.send(Job { queue, operations, ignores_hold: true, until: None, sender: sender.into() });
     }
 }
 

@@ -314,7 +314,7 @@ impl Replay {
                 let digest = record.digest.as_deref()?.to_string();
                 let mut lines = Vec::with_capacity(raw.get().len() + 160);
                 let client = 1 + (number % CLIENTS) as u32;
-                lines::append_request(&mut lines, record.clock, client, number, raw).ok()?;
+                lines::append_request(&mut lines, record.clock, client, number, raw.get().as_bytes()).ok()?;
                 self.out.extend_from_slice(&lines);
                 self.waiting.push_back(Unanswered::Ask { number, digest, clock: record.clock, subject });
                 self.take_older(record, store);

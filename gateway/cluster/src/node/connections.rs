@@ -7,7 +7,7 @@ use std::sync::{Arc, Mutex};
 use std::time::{Duration, Instant};
 
 use bytes::Bytes;
-use tokio::io::AsyncWriteExt;
+use tokio::io::{AsyncWrite, AsyncWriteExt};
 use tokio::net::tcp::{OwnedReadHalf, OwnedWriteHalf};
 use tokio::net::{TcpListener, TcpStream};
 use tokio::sync::mpsc::{unbounded_channel, UnboundedReceiver, UnboundedSender};
@@ -72,26 +72,56 @@ pub struct Linked {
 }
 
 /// Where frames for a client go.
+#[derive(Clone)]
 pub struct Outlet {
     /// The client wants the answers for client numbers in this range.
     pub wants: std::ops::RangeInclusive<u32>,
     frames: UnboundedSender<Bytes>,
     waiting: Arc<AtomicUsize>,
+    /// So many bytes may wait.
+    most: usize,
+    /// How a frame is told. Some aren't.
+    write: fn(&Frame) -> Option<Vec<u8>>,
 }
 
 impl Outlet {
+    /// To a client that speaks by frames. Whoever writes them takes their bytes from what waits.
+    fn new(wants: std::ops::RangeInclusive<u32>, frames: UnboundedSender<Bytes>, waiting: Arc<AtomicUsize>) -> Outlet {
+        Outlet { wants, frames, waiting, most: MOST_WAITING, write: |frame| Some(frame.bytes()) }
+    }
+
+    /// To somebody else, who hears of frames by other bytes, of which so many may wait.
+    pub fn to_another(
+        wants: std::ops::RangeInclusive<u32>,
+        frames: UnboundedSender<Bytes>,
+        waiting: Arc<AtomicUsize>,
+        most: usize,
+        write: fn(&Frame) -> Option<Vec<u8>>,
+    ) -> Outlet {
+        Outlet { wants, frames, waiting, most, write }
+    }
+
     /// One whose frames a test reads.
     #[cfg(test)]
     pub fn for_tests(wants: std::ops::RangeInclusive<u32>) -> (Outlet, UnboundedReceiver<Bytes>) {
         let (frames, read) = unbounded_channel();
-        (Outlet { wants, frames, waiting: Arc::default() }, read)
+        (Outlet::new(wants, frames, Arc::default()), read)
     }
 
     /// Whether the client is there, and reads.
     pub fn send(&self, frame: &Frame) -> bool {
-        let bytes = Bytes::from(frame.bytes());
+        (self.write)(frame).map_or(true, |bytes| self.send_bytes(bytes))
+    }
+
+    /// The same with bytes as they go to the client.
+    pub fn send_bytes(&self, bytes: Vec<u8>) -> bool {
         let waiting = self.waiting.fetch_add(bytes.len(), Ordering::Relaxed);
-        waiting < MOST_WAITING && self.frames.send(bytes).is_ok()
+        waiting < self.most && self.frames.send(bytes.into()).is_ok()
+    }
+
+    /// Whether all was written that was sent.
+    pub fn is_idle(&self) -> bool {
+        self.waiting.load(Ordering::Relaxed) == 0
     }
 }
 
@@ -298,11 +328,11 @@ async fn client(
     let client = CONNECTIONS.fetch_add(1, Ordering::Relaxed);
     let (frames, waiting_frames) = unbounded_channel();
     let waiting = Arc::new(AtomicUsize::new(0));
-    node.tell(Event::Client { client, outlet: Outlet { wants, frames, waiting: waiting.clone() } });
+    node.tell(Event::Client { client, outlet: Outlet::new(wants, frames, waiting.clone()) });
     let read = async {
         loop {
             let (stream, work) = match read(reading.next().await?)? {
-                Frame::Batch { stream, requests } => (stream, requests.into_iter().map(Work::Request).collect()),
+                Frame::Batch { stream, requests } => (stream, requests.into_iter().map(Work::request).collect()),
                 Frame::Query { stream, query } => (stream, [Work::Query(query)].into()),
                 _ => return Err(other("a frame came that doesn't belong to a client")),
             };
@@ -335,14 +365,24 @@ async fn write(
     mut writing: OwnedWriteHalf,
     waiting: &AtomicUsize,
 ) -> io::Result<()> {
-    while let Some(mut bytes) = frames.recv().await {
-        if let Ok(next) = frames.try_recv() {
-            bytes = gather(&[bytes, next], &mut frames);
-        }
-        timeout(WRITING, writing.write_all(&bytes)).await??;
-        waiting.fetch_sub(bytes.len(), Ordering::Relaxed);
-    }
+    while write_some(&mut frames, &mut writing, waiting).await? {}
     Err(other("the node let go of it"))
+}
+
+/// Writes what waits, once there is something. Whoever takes nothing for [`WRITING`] is an error. False where nothing will
+/// come any more.
+pub async fn write_some(
+    frames: &mut UnboundedReceiver<Bytes>,
+    writing: &mut (impl AsyncWrite + Unpin),
+    waiting: &AtomicUsize,
+) -> io::Result<bool> {
+    let Some(mut bytes) = frames.recv().await else { return Ok(false) };
+    if let Ok(next) = frames.try_recv() {
+        bytes = gather(&[bytes, next], frames);
+    }
+    timeout(WRITING, writing.write_all(&bytes)).await??;
+    waiting.fetch_sub(bytes.len(), Ordering::Relaxed);
+    Ok(true)
 }
 
 /// What waits in one piece, so that it is written at once.
@@ -357,11 +397,12 @@ fn gather(first: &[Bytes], frames: &mut UnboundedReceiver<Bytes>) -> Bytes {
     all.into()
 }
 
-fn read(bytes: Bytes) -> io::Result<Frame> {
+/// Reads a frame. One that is none is an error of invalid data, and so is whatever [`other`] says.
+pub fn read(bytes: Bytes) -> io::Result<Frame> {
     Frame::read(bytes).map_err(|malformed| io::Error::new(io::ErrorKind::InvalidData, malformed))
 }
 
-fn other(why: &str) -> io::Error {
+pub fn other(why: &str) -> io::Error {
     io::Error::new(io::ErrorKind::InvalidData, why)
 }
 

@@ -20,13 +20,17 @@ use crate::records::Chain;
 use crate::wire::Frame;
 
 use super::connections::{next_connection, Acknowledging, Linked};
+use super::gateway::{self, Beside};
 use super::inbox::{Inbox, Taken};
-use super::streams::{Streams, Work};
+use super::streams::{Streams, Turn, Work};
 use super::trace::Trace;
 use super::{End, Event, Report, Shared};
 
 /// So often what waits for memory is tried again, and timers are looked at.
 pub const TICK: Duration = Duration::from_millis(50);
+
+/// So often clients are told where the server stands.
+const SAYING: Duration = Duration::from_millis(500);
 
 /// From whom nothing came for so long isn't heard any more.
 const HEARD: Duration = Duration::from_secs(1);
@@ -57,6 +61,9 @@ enum What {
     Query(u64),
     More(Party),
     Gone(u32),
+    /// A query of the gateway, which is lost where it is refused.
+    OfGateway,
+    Save,
 }
 
 /// When something that waits at the server is asked for.
@@ -99,16 +106,24 @@ pub struct Core {
     /// For whom something waits at the server.
     waiting: BTreeMap<Party, Wait>,
     streams: Streams,
+    gateway: Beside,
     trace: Option<Trace>,
     /// When the server told something last.
     told: Instant,
     is_stuck: bool,
     ticked: Instant,
+    /// When clients were told where the server stands.
+    said: Instant,
     end: Option<End>,
 }
 
 impl Core {
-    pub fn new(node: Arc<Shared>, child: Child, trace: Option<&Path>) -> Result<Core> {
+    pub fn new(
+        node: Arc<Shared>,
+        child: Child,
+        gateway: Option<gateway::Settings>,
+        trace: Option<&Path>,
+    ) -> Result<Core> {
         Ok(Core {
             node,
             child,
@@ -124,10 +139,12 @@ impl Core {
             inboxes: BTreeMap::new(),
             waiting: BTreeMap::new(),
             streams: Streams::default(),
+            gateway: Beside::new(gateway),
             trace: trace.map(Trace::begin).transpose()?,
             told: Instant::now(),
             is_stuck: false,
             ticked: Instant::now(),
+            said: Instant::now(),
             end: None,
         })
     }
@@ -173,6 +190,7 @@ impl Core {
             }
             Event::Asked { client, stream, work, done } => self.streams.ask(client, stream, work, done),
             Event::Left { client } => self.streams.leave(client),
+            Event::Gateway(happening) => self.gateway.happen(happening, &mut self.streams),
             Event::Tick => self.tick(),
         }
     }
@@ -220,6 +238,7 @@ impl Core {
                 // What waits for a server that is gone is thrown away.
                 Response::Waiting(Party::Server(server)) if self.gone.contains(&server) => {}
                 Response::Waiting(party) => drop(self.waiting.entry(party).or_insert(Wait::Now)),
+                Response::Saved { chunk, .. } => self.gateway.saved(self.node.id, chunk, &mut self.streams),
                 _ => {}
             }
         }
@@ -241,6 +260,12 @@ impl Core {
             }
             What::Request(client) => self.streams.answered(client, true, refused),
             What::Query(client) => self.streams.answered(client, false, refused),
+            What::OfGateway => {}
+            What::Save => {
+                if let Some(code) = refused {
+                    self.gateway.not_saved(code, &mut self.streams);
+                }
+            }
             What::More(to) => {
                 self.waiting.remove(&to);
                 if refused == Some(NO_MEMORY) {
@@ -269,6 +294,11 @@ impl Core {
             }
         }
         self.streams.stand(&standing);
+        self.gateway.stands(self.node.id, before.is_acting, standing.is_acting);
+        if standing.is_head && !before.is_head {
+            self.gateway.keep(&self.node);
+            self.hear_others();
+        }
         let is_news = |one: bool, other: bool| one != other;
         if is_news(before.is_head, standing.is_head) || is_news(before.is_acting, standing.is_acting) {
             tracing::info!(
@@ -316,14 +346,20 @@ impl Core {
                 self.give(What::Take(from, place), &command);
             }
         }
-        while let Some((client, work)) = self.streams.next(&self.standing) {
+        while let Some(Turn { client, stream, work }) = self.streams.next(&self.standing) {
             match work {
-                Work::Request(request) => {
-                    let clock = self.node.now();
-                    self.give(What::Request(client), &Command::Arrive { clock, request });
+                Work::Request { request, clock } => {
+                    let clock = clock.unwrap_or_else(|| self.node.now());
+                    self.give(What::Request(client), &Command::Arrive { stream, clock, request });
                 }
                 Work::Query(query) => self.give(What::Query(client), &Command::Ask { query }),
             }
+        }
+        while let Some(query) = self.gateway.next_query() {
+            self.give(What::OfGateway, &Command::Ask { query });
+        }
+        if self.gateway.next_save() {
+            self.give(What::Save, &Command::Save);
         }
         self.ask_for_more();
     }
@@ -386,6 +422,15 @@ impl Core {
             self.links.values().for_each(|link| link.send_gone(*server));
             self.tell_gone(*server);
         }
+        self.hear_others();
+    }
+
+    /// The gateway hears all other servers of the chain, since answers come from the one that acts.
+    fn hear_others(&mut self) {
+        let Some(chain) = &self.chain else { return };
+        let is_there = |server: &u32| *server != self.node.id && !self.gone.contains(server);
+        let others = chain.members.iter().chain(&chain.joiner).copied().filter(is_there).collect();
+        self.gateway.listen_to(&others, &self.node);
     }
 
     fn tell_gone(&mut self, server: u32) {
@@ -489,6 +534,7 @@ impl Core {
         }
         self.let_go(&chain);
         self.chain = Some(chain);
+        self.hear_others();
     }
 
     /// The links end to servers that are in the chain no more.
@@ -525,7 +571,18 @@ impl Core {
             lock(&self.node.clock).lead(clock::wall(), clock::since_start());
         }
         self.look_at_server();
+        self.tell_clients();
+        self.gateway.tick(&self.node.time_for_gateway(), &mut self.streams);
         self.report();
+    }
+
+    /// Where the server stands, so that clients see that their connections work.
+    fn tell_clients(&mut self) {
+        if self.said.elapsed() >= SAYING {
+            self.said = Instant::now();
+            let frame = self.frame_of_standing();
+            self.streams.tell_all(&frame);
+        }
     }
 
     fn look_at_server(&mut self) {
@@ -545,6 +602,7 @@ impl Core {
             hears: self.peers.iter().filter_map(hears).collect(),
             clients: self.streams.len(),
             is_stuck: self.is_stuck,
+            gateway: self.gateway.phase(),
         };
     }
 }

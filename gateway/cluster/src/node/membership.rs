@@ -170,6 +170,7 @@ impl Membership {
             took: self.next_order - 1,
             hears: report.hears.clone(),
             clients: report.clients,
+            gateway: report.gateway,
         }
     }
 

@@ -2,6 +2,7 @@
 
 mod connections;
 mod core;
+pub mod gateway;
 mod inbox;
 mod membership;
 mod streams;
@@ -23,7 +24,8 @@ use crate::child::{Child, Told};
 use crate::clock::{self, Clock};
 use crate::commands::Standing;
 use crate::etcd::{Guard, Operation};
-use crate::records::{self, random_name, Chain, Cluster, Registration};
+use crate::pipe::FromNode;
+use crate::records::{self, random_name, Chain, Cluster, GatewayPhase, Registration};
 use crate::wire::{About, Frame};
 use crate::{lock, say};
 
@@ -45,6 +47,8 @@ pub struct Settings {
     pub listen: SocketAddr,
     pub beginning: Beginning,
     pub program: String,
+    /// The gateway beside it, if it has one.
+    pub gateway: Option<gateway::Settings>,
     /// A file for all that the server was told and told, for tests.
     pub trace: Option<PathBuf>,
 }
@@ -90,6 +94,8 @@ pub enum Event {
     Asked { client: u64, stream: u64, work: VecDeque<Work>, done: oneshot::Sender<()> },
     /// A client is gone.
     Left { client: u64 },
+    /// Something about the gateway beside this node.
+    Gateway(gateway::Happening),
     /// Some time has passed.
     Tick,
 }
@@ -102,6 +108,7 @@ pub struct Report {
     pub clients: usize,
     /// The server answers nothing.
     pub is_stuck: bool,
+    pub gateway: Option<GatewayPhase>,
 }
 
 /// What all tasks of a node know.
@@ -135,6 +142,12 @@ impl Shared {
         lock(&self.clock).now(clock::since_start())
     }
 
+    /// The same for a gateway.
+    fn time_for_gateway(&self) -> FromNode {
+        let since_start = clock::since_start();
+        FromNode::Time { time: lock(&self.clock).now(since_start), since_start }
+    }
+
     pub fn address(&self, server: u32) -> Option<SocketAddr> {
         lock(&self.registrations).get(&server).map(|registration| registration.address)
     }
@@ -155,17 +168,19 @@ impl Shared {
 
 /// Runs a node until the log says that it ends, or it fails.
 pub async fn run(cluster: Cluster, settings: Settings) -> Result<End> {
-    if !settings.listen.ip().is_loopback() {
-        bail!(
-            "{} isn't on this machine: without certificates, which aren't there yet, a node has a loopback address",
-            settings.listen
-        );
+    test_here(settings.listen, "a node")?;
+    let gateway = settings.gateway.as_ref().map(|gateway| gateway.listen);
+    if let Some(gateway) = gateway {
+        test_here(gateway, "its gateway")?;
+        if gateway.port() == 0 {
+            bail!("{gateway} has no port: fronts have to find the gateway there");
+        }
     }
     let listener =
         TcpListener::bind(settings.listen).await.with_context(|| format!("can't listen on {}", settings.listen))?;
     let address = listener.local_addr()?;
     let nonce = random_name();
-    let id = register(&cluster, settings.beginning, &Registration { nonce: nonce.clone(), address }).await?;
+    let id = register(&cluster, settings.beginning, &Registration { nonce: nonce.clone(), address, gateway }).await?;
     let (events, heard) = unbounded_channel();
     let child = start_child(&cluster, id, &settings, events.clone())?;
     let node = Arc::new(Shared {
@@ -184,11 +199,18 @@ pub async fn run(cluster: Cluster, settings: Settings) -> Result<End> {
     });
     say(&format!("server {id} listens on {address}"));
     tracing::info!(server = id, %address, child = child.id(), "a node begins");
-    let core = Core::new(node.clone(), child, settings.trace.as_deref())?;
+    let core = Core::new(node.clone(), child, settings.gateway, settings.trace.as_deref())?;
     tokio::spawn(connections::accept(listener, node.clone()));
     tokio::spawn(membership::keep(node.clone(), settings.beginning == Beginning::Join));
     tokio::spawn(tick(node));
     Ok(core.run(heard).await)
+}
+
+fn test_here(address: SocketAddr, whose: &str) -> Result<()> {
+    if !address.ip().is_loopback() {
+        bail!("{address} isn't on this machine: without certificates, which aren't there yet, {whose} has a loopback address");
+    }
+    Ok(())
 }
 
 fn start_child(cluster: &Cluster, id: u32, settings: &Settings, events: UnboundedSender<Event>) -> Result<Child> {

@@ -1,15 +1,17 @@
 //! What clients ask for, in the order of their streams.
 //!
-//! A stream ends at its first refusal: nothing that comes behind it is given to the server, so that requests never come
-//! in another order than they were sent. The server doesn't know of streams. So the next request of a stream is given to it
-//! only once it has taken the one before.
+//! A stream ends at its first refusal: nothing that comes behind it is taken, so that requests never come in another order
+//! than they were sent. Requests are given to the server ahead. All of them are of one stream there, until it refuses one:
+//! then it refuses all that was given by then, and a next stream begins. What others than the refused one's client had
+//! given is given again in that, in its order, and nothing of theirs comes before it.
 
 use std::collections::{BTreeMap, VecDeque};
 
 use bytes::Bytes;
 use tokio::sync::oneshot;
 
-use crate::commands::{Standing, NOT_HEAD};
+use crate::commands::{Standing, NOT_HEAD, STREAM_ENDED};
+use crate::pipe::RequestName;
 use crate::wire::Frame;
 
 use super::connections::Outlet;
@@ -23,8 +25,44 @@ const MOST_BYTES: usize = 64 << 20;
 /// One thing that a client asks for, as its bytes are written.
 #[derive(Clone, Debug, PartialEq, Eq)]
 pub enum Work {
-    Request(Bytes),
+    /// A request, and the moment that the client's clock showed, where that counts.
+    Request {
+        request: Bytes,
+        clock: Option<u64>,
+    },
     Query(Bytes),
+}
+
+impl Work {
+    /// A request of a client whose clock doesn't count.
+    pub fn request(request: Bytes) -> Work {
+        Work::Request { request, clock: None }
+    }
+
+    fn name(&self) -> Option<RequestName> {
+        match self {
+            Work::Request { request, .. } => RequestName::of(request),
+            Work::Query(_) => None,
+        }
+    }
+}
+
+/// What the server is given next.
+#[derive(Clone, Debug, PartialEq, Eq)]
+pub struct Turn {
+    /// Whose it is.
+    pub client: u64,
+    /// The server's stream of a request.
+    pub stream: u64,
+    pub work: Work,
+}
+
+/// What the server was given, and hasn't answered.
+struct Given {
+    work: Work,
+    /// The client's stream, and the server's.
+    stream: u64,
+    server_stream: u64,
 }
 
 struct Client {
@@ -33,15 +71,42 @@ struct Client {
     ended: u64,
     stream: u64,
     work: VecDeque<Work>,
+    given: VecDeque<Given>,
+    /// What was given and has to be given again, once nothing else is at the server.
+    again: VecDeque<Work>,
+    /// It waits for its turn.
+    is_in_turn: bool,
     done: Option<oneshot::Sender<()>>,
+}
+
+impl Client {
+    fn new(outlet: Outlet) -> Client {
+        let (work, given, again) = (VecDeque::new(), VecDeque::new(), VecDeque::new());
+        Client { outlet, ended: 0, stream: 0, work, given, again, is_in_turn: false, done: None }
+    }
+
+    /// Whether the next thing may be given. A query has nothing before it or behind it at the server, since one that is refused
+    /// ends its stream, and the server doesn't know that.
+    fn may_go_on(&self, server_stream: u64) -> bool {
+        let Some(next) = self.work.front() else { return false };
+        match self.given.back() {
+            None => true,
+            Some(last) => {
+                let are_requests = [&last.work, next].iter().all(|work| matches!(work, Work::Request { .. }));
+                are_requests && last.server_stream == server_stream && self.again.is_empty()
+            }
+        }
+    }
 }
 
 /// All clients.
 #[derive(Default)]
 pub struct Streams {
     clients: BTreeMap<u64, Client>,
-    /// The clients that have work for the server, and none at it.
+    /// The clients that have work for the server.
     turns: VecDeque<u64>,
+    /// So many streams of the server have ended.
+    refusals: u64,
     door: Door,
 }
 
@@ -94,8 +159,7 @@ impl Streams {
     }
 
     pub fn enter(&mut self, client: u64, outlet: Outlet) {
-        let new = Client { outlet, ended: 0, stream: 0, work: VecDeque::new(), done: None };
-        self.clients.insert(client, new);
+        self.clients.insert(client, Client::new(outlet));
     }
 
     pub fn leave(&mut self, client: u64) {
@@ -110,33 +174,69 @@ impl Streams {
             let _ = done.send(());
             return;
         }
+        one.again.clear();
         (one.stream, one.work, one.done) = (stream, work, Some(done));
         self.go_on(client);
     }
 
-    /// The next thing for the server, and whose it is.
-    pub fn next(&mut self, standing: &Standing) -> Option<(u64, Work)> {
+    /// A client asks for one thing more, which may ask ahead. What waits of an earlier stream is thrown away: all that is open
+    /// is asked for again. Says how much waits then.
+    pub fn add(&mut self, client: u64, stream: u64, work: Work) -> usize {
+        let Some(one) = self.clients.get_mut(&client) else { return 0 };
+        if stream <= one.ended || stream < one.stream {
+            return one.work.len();
+        }
+        if stream > one.stream {
+            one.stream = stream;
+            one.work.clear();
+            one.again.clear();
+        }
+        one.work.push_back(work);
+        let waiting = one.work.len();
+        self.go_on(client);
+        waiting
+    }
+
+    /// Whether that client is there, and reads.
+    pub fn has(&self, client: u64) -> bool {
+        self.clients.contains_key(&client)
+    }
+
+    /// The next thing for the server.
+    pub fn next(&mut self, standing: &Standing) -> Option<Turn> {
         while let Some(client) = self.turns.front().copied() {
+            let stream = self.server_stream();
             let Some(one) = self.clients.get_mut(&client) else {
                 self.turns.pop_front();
                 continue;
             };
-            let is_request = matches!(one.work.front(), Some(Work::Request(_)));
+            let is_request = matches!(one.work.front(), Some(Work::Request { .. }));
             if is_request && standing.is_head && !self.door.is_open() {
                 return None;
             }
             self.turns.pop_front();
-            match one.work.pop_front() {
-                Some(Work::Request(_)) if !standing.is_head => self.refuse(client, NOT_HEAD),
-                Some(Work::Request(request)) => {
-                    self.door.give(request.len());
-                    return Some((client, Work::Request(request)));
-                }
-                Some(query) => return Some((client, query)),
-                None => {}
+            one.is_in_turn = false;
+            if !one.may_go_on(stream) {
+                continue;
             }
+            if is_request && !standing.is_head {
+                self.refuse(client, NOT_HEAD, None);
+                continue;
+            }
+            let Some(work) = one.work.pop_front() else { continue };
+            one.given.push_back(Given { work: work.clone(), stream: one.stream, server_stream: stream });
+            if let Work::Request { request, .. } = &work {
+                self.door.give(request.len());
+            }
+            self.go_on(client);
+            return Some(Turn { client, stream, work });
         }
         None
+    }
+
+    /// The server's stream of requests that are given now.
+    fn server_stream(&self) -> u64 {
+        self.refusals + 1
     }
 
     /// The server has taken what it was given, or refused it with a number.
@@ -146,31 +246,52 @@ impl Streams {
                 Some(_) => self.door.refused(),
                 None => self.door.took(),
             }
+            self.refusals += u64::from(refused.is_some_and(|code| code != STREAM_ENDED));
         }
+        let Some(one) = self.clients.get_mut(&client) else { return };
+        let Some(given) = one.given.pop_front() else { return };
+        // What is of an earlier stream of the client's is asked for again by itself.
+        let is_current = given.stream == one.stream && given.stream > one.ended;
         match refused {
-            Some(code) => self.refuse(client, code),
-            None => self.go_on(client),
+            Some(STREAM_ENDED) if is_current => one.again.push_back(given.work),
+            Some(code) if is_current && code != STREAM_ENDED => self.refuse(client, code, given.work.name()),
+            _ => {}
         }
+        self.go_on(client);
     }
 
     fn go_on(&mut self, client: u64) {
+        let stream = self.server_stream();
         let Some(one) = self.clients.get_mut(&client) else { return };
-        if !one.work.is_empty() {
-            self.turns.push_back(client);
-        } else if let Some(done) = one.done.take() {
-            let _ = done.send(());
+        if one.given.is_empty() {
+            while let Some(work) = one.again.pop_back() {
+                one.work.push_front(work);
+            }
+        }
+        if one.may_go_on(stream) {
+            if !std::mem::replace(&mut one.is_in_turn, true) {
+                self.turns.push_back(client);
+            }
+        } else if one.given.is_empty() {
+            if let Some(done) = one.done.take() {
+                let _ = done.send(());
+            }
         }
     }
 
-    fn refuse(&mut self, client: u64, code: u32) {
+    fn refuse(&mut self, client: u64, code: u32, request: Option<RequestName>) {
         let Some(one) = self.clients.get_mut(&client) else { return };
+        if one.ended == one.stream {
+            return;
+        }
         one.ended = one.stream;
         one.work.clear();
+        one.again.clear();
         let stream = one.stream;
         if let Some(done) = one.done.take() {
             let _ = done.send(());
         }
-        self.send(client, &Frame::Refused { stream, code });
+        self.send(client, &Frame::Refused { stream, code, request });
     }
 
     /// Where the server stands now.
@@ -210,7 +331,7 @@ mod tests {
     const HEAD: Standing = Standing { count: 0, acked: 0, last: 0, is_head: true, is_acting: false, is_full: true };
 
     fn requests(texts: &[&'static str]) -> VecDeque<Work> {
-        texts.iter().map(|text| Work::Request(Bytes::from_static(text.as_bytes()))).collect()
+        texts.iter().map(|text| Work::request(Bytes::from_static(text.as_bytes()))).collect()
     }
 
     fn ask(streams: &mut Streams, client: u64, stream: u64, texts: &[&'static str]) -> oneshot::Receiver<()> {
@@ -220,9 +341,25 @@ mod tests {
     }
 
     fn next(streams: &mut Streams, standing: &Standing) -> Option<(u64, String)> {
-        streams.next(standing).map(|(client, work)| match work {
-            Work::Request(bytes) | Work::Query(bytes) => (client, String::from_utf8(bytes.to_vec()).unwrap()),
+        streams.next(standing).map(|Turn { client, work, .. }| match work {
+            Work::Request { request: bytes, .. } | Work::Query(bytes) => {
+                (client, String::from_utf8(bytes.to_vec()).unwrap())
+            }
         })
+    }
+
+    /// All that may be given now, each with the server's stream.
+    fn all(streams: &mut Streams) -> Vec<(u64, u64, String)> {
+        let mut all = Vec::new();
+        loop {
+            let stream = streams.server_stream();
+            let Some((client, text)) = next(streams, &HEAD) else { return all };
+            all.push((client, stream, text));
+        }
+    }
+
+    fn given(expected: &[(u64, u64, &str)]) -> Vec<(u64, u64, String)> {
+        expected.iter().map(|(client, stream, text)| (*client, *stream, (*text).into())).collect()
     }
 
     fn told(frames: &mut UnboundedReceiver<Bytes>) -> Vec<Frame> {
@@ -241,15 +378,13 @@ mod tests {
     }
 
     #[test]
-    fn a_stream_is_given_one_by_one_and_streams_take_turns() {
+    fn streams_are_given_ahead_and_take_turns() {
         let (mut streams, _frames) = streams(2);
         let mut done = ask(&mut streams, 1, 1, &["a", "b"]);
         ask(&mut streams, 2, 1, &["x"]);
-        assert_eq!(next(&mut streams, &HEAD), Some((1, "a".into())));
-        assert_eq!(next(&mut streams, &HEAD), Some((2, "x".into())));
-        assert_eq!(next(&mut streams, &HEAD), None, "the one before isn't taken yet");
+        assert_eq!(all(&mut streams), given(&[(1, 1, "a"), (2, 1, "x"), (1, 1, "b")]));
         streams.answered(1, true, None);
-        assert_eq!(next(&mut streams, &HEAD), Some((1, "b".into())));
+        streams.answered(2, true, None);
         assert!(done.try_recv().is_err());
         streams.answered(1, true, None);
         assert!(done.try_recv().is_ok());
@@ -259,14 +394,92 @@ mod tests {
     fn nothing_behind_a_refusal_is_given() {
         let (mut streams, mut frames) = streams(1);
         ask(&mut streams, 1, 5, &["a", "b"]);
-        next(&mut streams, &HEAD);
+        all(&mut streams);
         streams.answered(1, true, Some(20));
-        assert_eq!(told(&mut frames[0]), [Frame::Refused { stream: 5, code: 20 }]);
+        assert_eq!(told(&mut frames[0]), [Frame::Refused { stream: 5, code: 20, request: None }]);
         let mut done = ask(&mut streams, 1, 5, &["c"]);
         assert!(done.try_recv().is_ok());
-        assert_eq!(next(&mut streams, &HEAD), None);
         ask(&mut streams, 1, 6, &["a"]);
+        assert_eq!(all(&mut streams), [], "the one behind the refused one isn't answered yet");
+        streams.answered(1, true, Some(STREAM_ENDED));
+        assert_eq!(all(&mut streams), given(&[(1, 2, "a")]));
+        assert_eq!(told(&mut frames[0]), []);
+    }
+
+    #[test]
+    fn what_was_refused_with_another_clients_is_given_again_in_its_order() {
+        let (mut streams, mut frames) = streams(2);
+        ask(&mut streams, 1, 1, &["a", "b"]);
+        for text in ["x", "y"] {
+            streams.add(2, 1, Work::request(Bytes::from_static(text.as_bytes())));
+        }
+        assert_eq!(all(&mut streams), given(&[(1, 1, "a"), (2, 1, "x"), (1, 1, "b"), (2, 1, "y")]));
+        streams.answered(1, true, Some(20));
+        streams.add(2, 1, Work::request(Bytes::from_static(b"z")));
+        assert_eq!(all(&mut streams), []);
+        for client in [2, 1] {
+            streams.answered(client, true, Some(STREAM_ENDED));
+            assert_eq!(all(&mut streams), []);
+        }
+        streams.answered(2, true, Some(STREAM_ENDED));
+        assert_eq!(all(&mut streams), given(&[(2, 2, "x"), (2, 2, "y"), (2, 2, "z")]));
+        assert_eq!(told(&mut frames[0]), [Frame::Refused { stream: 1, code: 20, request: None }]);
+        assert_eq!(told(&mut frames[1]), []);
+        assert!(streams.door.given == 3 && streams.door.sizes.len() == 3);
+    }
+
+    #[test]
+    fn a_query_is_alone_at_the_server() {
+        let (mut streams, _frames) = streams(1);
+        let (done, _is_done) = oneshot::channel();
+        let query = Work::Query(Bytes::from_static(b"q"));
+        let work = [requests(&["a"]), [query].into(), requests(&["b"])].into_iter().flatten().collect();
+        streams.ask(1, 1, work, done);
         assert_eq!(next(&mut streams, &HEAD), Some((1, "a".into())));
+        assert_eq!(next(&mut streams, &HEAD), None);
+        streams.answered(1, true, None);
+        assert_eq!(next(&mut streams, &HEAD), Some((1, "q".into())));
+        assert_eq!(next(&mut streams, &HEAD), None);
+        streams.answered(1, false, None);
+        assert_eq!(next(&mut streams, &HEAD), Some((1, "b".into())));
+    }
+
+    fn add(streams: &mut Streams, stream: u64, text: &'static str) -> usize {
+        streams.add(1, stream, Work::request(Bytes::from_static(text.as_bytes())))
+    }
+
+    #[test]
+    fn who_asks_ahead_is_given_in_order_and_nothing_behind_a_refusal() {
+        let (mut streams, mut frames) = streams(1);
+        assert_eq!(["a", "b", "c"].map(|text| add(&mut streams, 1, text)), [1, 2, 3]);
+        assert_eq!(all(&mut streams), given(&[(1, 1, "a"), (1, 1, "b"), (1, 1, "c")]));
+        streams.answered(1, true, None);
+        streams.answered(1, true, Some(20));
+        assert_eq!(told(&mut frames[0]), [Frame::Refused { stream: 1, code: 20, request: None }]);
+        add(&mut streams, 1, "d");
+        add(&mut streams, 2, "b");
+        assert_eq!(all(&mut streams), []);
+        streams.answered(1, true, Some(STREAM_ENDED));
+        assert_eq!(all(&mut streams), given(&[(1, 2, "b")]));
+        assert_eq!(told(&mut frames[0]), []);
+    }
+
+    #[test]
+    fn a_new_stream_takes_the_place_of_what_waits_of_an_earlier_one() {
+        let (mut streams, _frames) = streams(1);
+        for text in ["a", "b"] {
+            add(&mut streams, 1, text);
+        }
+        assert_eq!(next(&mut streams, &HEAD), Some((1, "a".into())));
+        for text in ["a", "b", "c"] {
+            add(&mut streams, 2, text);
+        }
+        add(&mut streams, 1, "b");
+        assert_eq!(all(&mut streams), given(&[(1, 1, "a"), (1, 1, "b"), (1, 1, "c")]));
+        for _ in 0..4 {
+            streams.answered(1, true, None);
+        }
+        assert_eq!(all(&mut streams), []);
     }
 
     #[test]
@@ -274,7 +487,7 @@ mod tests {
         let (mut streams, mut frames) = streams(1);
         ask(&mut streams, 1, 1, &["a"]);
         assert_eq!(next(&mut streams, &Standing { is_head: false, ..HEAD }), None);
-        assert_eq!(told(&mut frames[0]), [Frame::Refused { stream: 1, code: NOT_HEAD }]);
+        assert_eq!(told(&mut frames[0]), [Frame::Refused { stream: 1, code: NOT_HEAD, request: None }]);
     }
 
     #[test]
@@ -295,7 +508,7 @@ mod tests {
         for stream in 1..=20 {
             let (done, _is_done) = oneshot::channel();
             let large = Bytes::from(vec![b'a'; MOST_BYTES / 16]);
-            streams.ask(1, stream, [Work::Request(large)].into(), done);
+            streams.ask(1, stream, [Work::request(large)].into(), done);
             assert!(next(&mut streams, &HEAD).is_some(), "the one of stream {stream}");
             streams.answered(1, true, Some(20));
         }

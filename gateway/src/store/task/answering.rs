@@ -10,6 +10,9 @@ use crate::store::{Answer, AnswerSender};
 
 impl Task {
     pub(super) fn read_answers(&mut self) -> Result<(), Ended> {
+        if self.chain.is_some() {
+            return self.read_frames();
+        }
         let Some(end) = memchr::memrchr(b'\n', &self.incoming) else { return Ok(()) };
         let whole = self.incoming.split_to(end + 1);
         for line in lines::split_lines(&whole[..end]) {
@@ -61,9 +64,9 @@ impl Task {
                 self.go_on_with(&asked, false)?;
             }
             // It is seen to answer all the same.
-            Entry::Moment(_) if sender.is_some() => self.finish(Ok(Outcome::Done), sender),
+            Entry::Moment { .. } if sender.is_some() => self.finish(Ok(Outcome::Done), sender),
             Entry::Count { .. } => self.finish(Err(refusal_for_room(false)), sender),
-            Entry::Moment(_) | Entry::Probe { .. } | Entry::Ready(_) => {}
+            Entry::Moment { .. } | Entry::Probe { .. } | Entry::Ready(_) => {}
         }
         Ok(())
     }
@@ -76,17 +79,17 @@ impl Task {
         (self.is_put_next, self.ends) = (true, 0);
         self.close(&asked);
         self.admission.answered(asked.weight);
-        let start: String = asked.raw.get().chars().take(200).collect();
+        let start = String::from_utf8_lossy(&asked.written[..asked.written.len().min(200)]);
         // A client may have said what stands in it.
         tracing::warn!("cq refused a line ({code}): {start:?}");
         self.finish(Err(SqsError::of_refusal(code)), sender);
         self.go_on_with(&asked, false)
     }
 
-    fn answered(&mut self, client: u32, number: u64, reply: StoreReply) -> Result<(), Ended> {
+    pub(super) fn answered(&mut self, client: u32, number: u64, reply: StoreReply) -> Result<(), Ended> {
         let is_answered = |entry: &Entry| match entry {
             Entry::Ask(asked) => (asked.client, asked.number) == (client, number),
-            Entry::Moment(_) => number == 0,
+            Entry::Moment { number: own, .. } => *own == number,
             Entry::Probe { tag, .. } | Entry::Count { tag, .. } => *tag == number,
             Entry::Ready(_) => false,
         };
@@ -103,7 +106,8 @@ impl Task {
                 self.finish(answer, sender);
                 self.go_on_with(&asked, is_done)
             }
-            Entry::Moment(_) => {
+            Entry::Moment { .. } => {
+                self.moment_answered();
                 if sender.is_some() {
                     self.finish(Ok(Outcome::Done), sender);
                 }
@@ -149,7 +153,7 @@ impl Task {
     }
 
     /// The program has answered this one.
-    fn close(&mut self, asked: &OpenAsk) {
+    pub(super) fn close(&mut self, asked: &OpenAsk) {
         self.clients.give_back(asked.client);
         self.forget_open(&asked.ask);
         self.waits_for_answer = false;

@@ -2,8 +2,6 @@
 
 use std::sync::Arc;
 
-use serde_json::value::RawValue;
-
 use super::room::adds;
 use crate::clock::Moment;
 use crate::queues::ask::Ask;
@@ -21,7 +19,7 @@ impl Open {
     /// How many bytes that stay it asks to add.
     pub(super) fn bytes_added(&self) -> u64 {
         match &self.entry {
-            Entry::Ask(asked) if adds(&asked.ask) => asked.raw.get().len() as u64,
+            Entry::Ask(asked) if adds(&asked.ask) => asked.written.len() as u64,
             _ => 0,
         }
     }
@@ -30,10 +28,16 @@ impl Open {
 pub(super) enum Entry {
     Ask(Box<OpenAsk>),
     /// The request that moves the store's moment on, to this one, before a count.
-    Moment(Moment),
+    Moment {
+        moment: Moment,
+        /// 0 where the program answers all in order.
+        number: u64,
+    },
     Count {
         tag: u64,
         queue: Arc<Queue>,
+        /// Of a chain: how many entries the server that answers has to have. None: it isn't known yet, and nothing is asked.
+        least: Option<u64>,
     },
     /// A count that nobody waits for. Its answer tells that the program doesn't end at whatever it is asked.
     Probe {
@@ -43,16 +47,30 @@ pub(super) enum Entry {
     Ready(Option<Answer>),
 }
 
+impl Entry {
+    /// By which its answer is known, where answers don't come in order.
+    pub(super) fn number(&self) -> Option<u64> {
+        match self {
+            Entry::Ask(asked) => Some(asked.number),
+            Entry::Moment { number, .. } => Some(*number),
+            Entry::Count { tag, .. } | Entry::Probe { tag, .. } => Some(*tag),
+            Entry::Ready(_) => None,
+        }
+    }
+}
+
 /// An ask that is with the program.
 pub(super) struct OpenAsk {
     pub(super) queue: Arc<Queue>,
     pub(super) ask: Ask,
-    pub(super) raw: Box<RawValue>,
+    /// The ask as it is written.
+    pub(super) written: Vec<u8>,
     pub(super) moment: Moment,
     pub(super) client: u32,
     pub(super) number: u64,
     /// Bytes of memory that it was counted with.
     pub(super) weight: u64,
+    /// How often it was asked again.
     pub(super) ends: u32,
     /// The program has done it, and was started again before it was answered.
     pub(super) is_done: bool,
@@ -82,5 +100,7 @@ pub(super) struct Pending {
     pub(super) queue: Option<Arc<Queue>>,
     /// None where only the answers to earlier operations are waited for.
     pub(super) operation: Option<Operation>,
+    /// If it is for a client, it isn't started behind this moment.
+    pub(super) until: Option<Moment>,
     pub(super) sender: Option<AnswerSender>,
 }

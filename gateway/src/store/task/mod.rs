@@ -2,6 +2,7 @@
 //! and hands each to who asked.
 
 mod answering;
+mod chain;
 mod clients;
 mod entries;
 mod moving;
@@ -15,9 +16,11 @@ use std::sync::Arc;
 use std::time::Duration;
 
 use bytes::BytesMut;
+use hobbychair_cluster::parts::Malformed;
 use thiserror::Error;
 use tokio::io::{AsyncReadExt, AsyncWriteExt};
 use tokio::sync::mpsc;
+use tokio::time::Instant;
 
 use super::admission::Admission;
 use super::figures::Counters;
@@ -31,10 +34,12 @@ use crate::queues::shards::{Shard, Shards};
 use crate::queues::{Queue, Queues};
 use crate::store_bytes::{Part, StoreReader};
 use crate::texts::STORE_LIMIT;
+use chain::Chain;
 use clients::{Clients, CLIENTS};
 use entries::{Entry, Open, OpenAsk, Pending};
 use moving::Moving;
 use outgoing::Outgoing;
+pub(super) use room::is_for_client;
 use space::Space;
 
 /// Why the store doesn't go on.
@@ -48,6 +53,10 @@ pub enum Ended {
     NotNext { client: u32, number: u64 },
     #[error("a line for cq can't be written: {0}")]
     Line(#[from] serde_json::Error),
+    #[error("the node and this gateway don't understand each other: {0}")]
+    Malformed(#[from] Malformed),
+    #[error("a server can't read a request ({0})")]
+    Unread(u32),
     #[error(transparent)]
     Told(#[from] ToldError),
     /// All copies of the store are gone.
@@ -78,6 +87,8 @@ struct Task {
     cq: Cq,
     queues: Arc<Queues>,
     clock: Arc<Clock>,
+    /// What is known of a chain that keeps the store, where one does.
+    chain: Option<Chain>,
     /// Where the program keeps its lines, if it does.
     file: Option<KeptFile>,
     /// The number of the last line that the program has counted, as it tells it.
@@ -117,12 +128,22 @@ pub struct Start {
     pub shards: Shards,
     /// One for each shard.
     pub cqs: Vec<Cq>,
+    /// Where a chain keeps the store: its node.
+    pub node: Option<NodeStart>,
     pub queues: Arc<Queues>,
     pub clock: Arc<Clock>,
     /// Of programs that keep their lines: where, and how they began.
     pub kept: Option<Kept>,
     /// The bound of memory, in bytes.
     pub memory: Option<u64>,
+}
+
+/// What is known of a node at the start.
+pub struct NodeStart {
+    /// Its server's number.
+    pub server: u32,
+    /// What was read of it already.
+    pub incoming: BytesMut,
 }
 
 /// What is known of programs that keep their lines.
@@ -136,17 +157,18 @@ pub struct Kept {
 pub type Ends = mpsc::UnboundedReceiver<Ended>;
 
 /// Starts the tasks, one for each shard.
-pub fn start(start: Start) -> (Store, Ends) {
+pub fn start(mut start: Start) -> (Store, Ends) {
     let admission = Arc::new(Admission::new(start.queues.clone(), start.memory));
     let counters = Arc::new(Counters::default());
     let (ended, reasons) = mpsc::unbounded_channel();
-    let (mut jobs, is_kept) = (Vec::new(), start.kept.is_some());
+    let (mut jobs, is_kept, is_of_chain) = (Vec::new(), start.kept.is_some(), start.node.is_some());
     for (cq, shard) in start.cqs.into_iter().zip(start.shards.all()) {
         let (queue, waiting) = mpsc::unbounded_channel();
         jobs.push(queue);
         let begun = start.kept.as_ref().and_then(|kept| kept.begun.get(shard.place()).copied());
         // Numbers in use begin above all that any earlier run can have used.
-        let (line, last_number) = begun.unwrap_or_else(|| (0, start.clock.now() << 20));
+        let (line, largest) = begun.unwrap_or_else(|| (0, start.clock.now() << 20));
+        let last_number = start.node.as_ref().map_or(largest, |node| chain::number_before(largest, node.server));
         let file = start.kept.as_ref().and_then(|kept| kept.files.get(shard.place()).cloned());
         let length = file.as_ref().and_then(|file| std::fs::metadata(&file.path).ok()).map(|found| found.len());
         let mut task = Task {
@@ -156,6 +178,7 @@ pub fn start(start: Start) -> (Store, Ends) {
             cq,
             queues: start.queues.clone(),
             clock: start.clock.clone(),
+            chain: start.node.is_some().then(Chain::default),
             file,
             line,
             is_put_next: false,
@@ -170,7 +193,7 @@ pub fn start(start: Start) -> (Store, Ends) {
             clients: Clients::new(),
             last_number,
             out: Outgoing::default(),
-            incoming: BytesMut::new(),
+            incoming: start.node.as_mut().map(|node| std::mem::take(&mut node.incoming)).unwrap_or_default(),
             answers: Vec::new(),
             finished: Vec::new(),
             waits_for_answer: false,
@@ -191,6 +214,7 @@ pub fn start(start: Start) -> (Store, Ends) {
         queues: start.queues,
         clock: start.clock,
         is_kept,
+        is_of_chain,
         admission,
         counters,
     };
@@ -223,6 +247,7 @@ impl Task {
         self.send_answers();
         self.count_open();
         self.cq.output.is_awaited = !self.open.is_empty();
+        let due = self.chain.as_ref().and_then(Chain::due);
         tokio::select! {
             biased;
             read = self.cq.output.read_buf(&mut self.incoming) => match read {
@@ -238,6 +263,7 @@ impl Task {
                 // The end of its output tells how it ended.
                 Err(_) => self.out.clear(),
             },
+            () = wait_until(due), if due.is_some() => self.ask_what_is_due()?,
             job = jobs.recv(), if self.pending.len() < 4 * CLIENTS as usize => {
                 let Some(job) = job else { return Err(Ended::NobodyAsks) };
                 self.take(job);
@@ -261,7 +287,7 @@ impl Task {
     fn take(&mut self, job: Job) {
         let Some(queue) = &job.queue else {
             let operation = job.operations.into_iter().next();
-            self.pending.push_back(Pending { queue: None, operation, sender: Some(job.sender) });
+            self.pending.push_back(Pending { queue: None, operation, until: None, sender: Some(job.sender) });
             return;
         };
         let hold = match job.operations.first() {
@@ -293,7 +319,8 @@ impl Task {
                 _ => {}
             }
             let sender = if place + 1 == count { sender.take() } else { None };
-            self.pending.push_back(Pending { queue: Some(queue.clone()), operation: Some(operation), sender });
+            let (queue, until) = (Some(queue.clone()), job.until);
+            self.pending.push_back(Pending { queue, operation: Some(operation), until, sender });
         }
     }
 
@@ -379,18 +406,25 @@ impl Task {
                 self.write(&asked)?;
                 Entry::Ask(asked)
             }
-            Entry::Count { tag, queue } => {
+            Entry::Count { tag, queue, least } => {
                 self.write_count(tag, &queue)?;
-                Entry::Count { tag, queue }
+                Entry::Count { tag, queue, least }
             }
             Entry::Probe { tag, queue } => {
                 self.write_count(tag, &queue)?;
                 Entry::Probe { tag, queue }
             }
             // Whatever is asked behind it has its first clock, too.
-            Entry::Moment(moment) => self.moment_at(moment)?,
+            Entry::Moment { moment, number } => self.moment_at(moment, number)?,
             other => other,
         }))
+    }
+}
+
+async fn wait_until(moment: Option<Instant>) {
+    match moment {
+        Some(moment) => tokio::time::sleep_until(moment).await,
+        None => std::future::pending().await,
     }
 }
 

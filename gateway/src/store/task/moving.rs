@@ -5,8 +5,6 @@
 
 use std::sync::Arc;
 
-use serde_json::value::RawValue;
-
 use super::clients::CLIENTS;
 use super::entries::{Entry, Open, OpenAsk, StartOutcome};
 use super::starting::stamped;
@@ -52,11 +50,11 @@ impl Task {
         let copies: Vec<_> =
             copies.into_iter().map(|copy| Copy { ask: stamped(copy.ask, &target, moment), ..copy }).collect();
         for copy in &copies {
-            asked.push(serde_json::value::to_raw_value(&AskFields::of(store, base, &copy.ask))?);
+            asked.push(self.encode(&AskFields::of(store, base, &copy.ask))?);
         }
         self.moving = Some(Moving { source, left: copies.len(), copied: Vec::new(), sender: sender.take() });
-        for (copy, raw) in copies.into_iter().zip(asked) {
-            self.begin(target.clone(), copy.ask, raw, moment, Some(copy.sequence))?;
+        for (copy, written) in copies.into_iter().zip(asked) {
+            self.begin(target.clone(), copy.ask, written, moment, Some(copy.sequence))?;
         }
         Ok(StartOutcome::Begun)
     }
@@ -66,15 +64,15 @@ impl Task {
         &mut self,
         queue: Arc<Queue>,
         ask: Ask,
-        raw: Box<RawValue>,
+        written: Vec<u8>,
         moment: Moment,
         original: Option<u64>,
     ) -> Result<(), Ended> {
         // There are as many free clients as copies, and a copy that is answered frees its own.
         let client = self.clients.take(false).unwrap_or(CLIENTS);
-        self.last_number += 1;
-        let number = self.last_number;
-        let asked = OpenAsk { queue, ask, raw, moment, client, number, weight: 0, ends: 0, is_done: false, original };
+        let number = self.next_number();
+        let asked =
+            OpenAsk { queue, ask, written, moment, client, number, weight: 0, ends: 0, is_done: false, original };
         self.write(&asked)?;
         self.open.push_back(Open { entry: Entry::Ask(Box::new(asked)), sender: None });
         Ok(())
@@ -105,8 +103,8 @@ impl Task {
             let receipt = source.state().last_receipt_of(original);
             let Some(receipt) = receipt else { continue };
             let ask = Ask::Delete { receipt, by_client: false };
-            let raw = serde_json::value::to_raw_value(&AskFields::of(store, base, &ask))?;
-            self.begin(source.clone(), ask, raw, moment, None)?;
+            let written = self.encode(&AskFields::of(store, base, &ask))?;
+            self.begin(source.clone(), ask, written, moment, None)?;
             is_begun = true;
         }
         match self.open.back_mut().filter(|_| is_begun) {

@@ -1,7 +1,7 @@
 //! What is said of a request for which a program's journal has no room.
 
 use crate::errors::SqsError;
-use crate::queues::ask::{Ask, Cause, PartsAsk, PartsCause};
+use crate::queues::ask::{Ask, Cause, Changer, PartsAsk, PartsCause};
 
 /// What is told of a request for which a program's journal has no room. `adds`: it adds something that stays.
 pub(super) fn refusal_for_room(adds: bool) -> SqsError {
@@ -10,6 +10,16 @@ pub(super) fn refusal_for_room(adds: bool) -> SqsError {
         SqsError::OverLimit(message)
     } else {
         SqsError::ServiceUnavailable(message)
+    }
+}
+
+/// Whether a client asked for it, and it does something that nobody wants once that client waits no more.
+pub(in crate::store) fn is_for_client(ask: &Ask) -> bool {
+    match ask {
+        Ask::Receive { reach, .. } => reach.is_for_client(),
+        Ask::Delete { by_client, .. } => *by_client,
+        Ask::ChangeVisibility { by, .. } => *by == Changer::Client,
+        other => adds(other),
     }
 }
 

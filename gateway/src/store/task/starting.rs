@@ -2,27 +2,33 @@
 
 use std::sync::Arc;
 
-use serde_json::value::RawValue;
-
 use super::entries::{Entry, Open, OpenAsk, Pending, StartOutcome};
 use super::room::{adds, refusal_for_room};
-use super::{Ended, Task, PIECE};
+use super::{chain, Ended, Task, PIECE};
 use crate::clock::Moment;
 use crate::errors::SqsError;
+use crate::frames;
 use crate::handles::Receipt;
 use crate::lines::{self, AskFields};
 use crate::queues::ask::{Ask, Cause, Outcome, StoreName, TableChange};
 use crate::queues::book;
 use crate::queues::{Queue, State};
-use crate::store::{Answer, AnswerSender, Operation};
+use crate::store::{Answer, Operation};
 use crate::texts::{QueueKind, STORE_LIMIT};
 
 impl Task {
     /// Starts the operations that wait, as long as there are free clients.
     pub(super) fn start_pending(&mut self) -> Result<(), Ended> {
+        let mut has_asked = false;
         while self.may_start() {
-            let Some(Pending { queue, operation, mut sender }) = self.pending.pop_front() else { break };
+            let Some(Pending { queue, operation, until, mut sender }) = self.pending.pop_front() else { break };
+            let is_for_client = operation.as_ref().is_some_and(Operation::is_for_client);
+            let is_late = is_for_client && until.is_some_and(|until| until < self.clock.now());
+            // What the tables show may be old where the chain has another head by now, which then answers nothing of this.
+            let may_be_of_tables = operation.as_ref().map_or(true, Operation::may_be_of_tables);
+            let is_of_tables = self.chain.is_some() && may_be_of_tables && !is_late;
             let started = match (queue, operation) {
+                _ if is_late => StartOutcome::ready(Err(too_late())),
                 (Some(queue), Some(Operation::Ask(ask))) => self.start_ask(queue, ask)?,
                 (Some(queue), Some(Operation::AskBeside(ask))) => match queue.delays() {
                     _ if is_purged(&ask, &queue) => StartOutcome::ready(Ok(Outcome::Done)),
@@ -43,10 +49,19 @@ impl Task {
                 _ => StartOutcome::Open(Entry::Ready(None)),
             };
             match started {
+                StartOutcome::Open(entry @ Entry::Ready(_)) if is_of_tables => {
+                    // All that is started here came before this one request.
+                    if !std::mem::replace(&mut has_asked, true) {
+                        let entry = self.moment()?;
+                        self.open.push_back(Open { entry, sender: None });
+                    }
+                    self.open.push_back(Open { entry, sender });
+                }
                 StartOutcome::Open(entry) => self.open.push_back(Open { entry, sender }),
                 StartOutcome::Begun => {}
                 StartOutcome::WaitsForAnswer(queue, operation) => {
-                    self.put_back(queue, operation, sender);
+                    let (queue, operation) = (Some(queue), Some(operation));
+                    self.pending.push_front(Pending { queue, operation, until, sender });
                     self.waits_for_answer = true;
                 }
             }
@@ -55,12 +70,9 @@ impl Task {
     }
 
     fn may_start(&self) -> bool {
-        let has_to_wait = self.waits_for_answer || self.moving.is_some();
+        let has_to_wait =
+            self.waits_for_answer || self.moving.is_some() || self.is_stopped() || self.has_most_moments();
         !has_to_wait && self.clients.has(false) && self.out.bytes.len() < PIECE
-    }
-
-    fn put_back(&mut self, queue: Arc<Queue>, operation: Operation, sender: Option<AnswerSender>) {
-        self.pending.push_front(Pending { queue: Some(queue), operation: Some(operation), sender });
     }
 
     fn start_ask(&mut self, queue: Arc<Queue>, ask: Ask) -> Result<StartOutcome, Ended> {
@@ -99,8 +111,8 @@ impl Task {
             }
         }
         let ask = stamped(ask, &queue, moment);
-        let raw = serde_json::value::to_raw_value(&AskFields::of(store, base, &ask))?;
-        if !self.has_space(&ask, raw.get().len() as u64, moment) {
+        let written = self.encode(&AskFields::of(store, base, &ask))?;
+        if !self.has_space(&ask, written.len() as u64, moment) {
             self.counters.count_lack_of_room();
             return ready(Err(refusal_for_room(true)));
         }
@@ -108,7 +120,7 @@ impl Task {
             Ok(weight) => weight,
             Err(error) => return ready(Err(error)),
         };
-        self.ask_admitted(queue, ask, raw, moment, weight)
+        self.ask_admitted(queue, ask, written, moment, weight)
     }
 
     /// Whether the program's file has space for so many bytes more that stay, if this adds them.
@@ -128,11 +140,11 @@ impl Task {
         &mut self,
         queue: Arc<Queue>,
         ask: Ask,
-        raw: Box<RawValue>,
+        written: Vec<u8>,
         moment: Moment,
         weight: u64,
     ) -> Result<StartOutcome, Ended> {
-        match self.ask_free_client(queue, ask, raw, moment, weight)? {
+        match self.ask_free_client(queue, ask, written, moment, weight)? {
             started @ StartOutcome::Open(Entry::Ask(_)) => Ok(started),
             other => {
                 self.admission.answered(weight);
@@ -145,7 +157,7 @@ impl Task {
         &mut self,
         queue: Arc<Queue>,
         ask: Ask,
-        raw: Box<RawValue>,
+        written: Vec<u8>,
         moment: Moment,
         weight: u64,
     ) -> Result<StartOutcome, Ended> {
@@ -156,15 +168,15 @@ impl Task {
         let Some(client) = self.clients.take(ask.reads_parts()) else {
             return ready(Err(SqsError::InternalFailure("No client is free.".into())));
         };
-        self.last_number += 1;
+        let number = self.next_number();
         self.open_visibility_changes += usize::from(matches!(ask, Ask::ChangeVisibility { .. }));
         let asked = OpenAsk {
             queue,
             ask: ask.without_text(),
-            raw,
+            written,
             moment,
             client,
-            number: self.last_number,
+            number,
             weight,
             ends: 0,
             is_done: false,
@@ -190,41 +202,54 @@ impl Task {
     }
 
     pub(super) fn write(&mut self, asked: &OpenAsk) -> Result<(), Ended> {
-        let OpenAsk { moment, client, number, raw, .. } = asked;
-        Ok(lines::append_request(&mut self.out.bytes, *moment, *client, *number, raw)?)
+        let OpenAsk { moment, client, number, written, .. } = asked;
+        match &self.chain {
+            Some(chain) => chain.request(&mut self.out.bytes, *moment, frames::request(*client, *number, written)),
+            None => lines::append_request(&mut self.out.bytes, *moment, *client, *number, written)?,
+        }
+        Ok(())
     }
 
     pub(super) fn moment(&mut self) -> Result<Entry, Ended> {
-        self.moment_at(self.clock.now())
+        self.count_moment();
+        // In a chain answers may come twice, so that each has a number of its own.
+        let number = if self.chain.is_some() { self.next_number() } else { 0 };
+        self.moment_at(self.clock.now(), number)
     }
 
-    pub(super) fn moment_at(&mut self, moment: Moment) -> Result<Entry, Ended> {
-        lines::append_moment(&mut self.out.bytes, moment)?;
-        Ok(Entry::Moment(moment))
+    pub(super) fn moment_at(&mut self, moment: Moment, number: u64) -> Result<Entry, Ended> {
+        match &self.chain {
+            Some(chain) => chain.request(&mut self.out.bytes, moment, frames::moment(number)),
+            None => lines::append_moment(&mut self.out.bytes, moment)?,
+        }
+        Ok(Entry::Moment { moment, number })
     }
 
     fn count(&mut self, queue: Arc<Queue>) -> Result<Entry, Ended> {
         let entry = self.moment()?;
         self.open.push_back(Open { entry, sender: None });
-        let tag = self.next_tag();
-        self.write_count(tag, &queue)?;
-        Ok(Entry::Count { tag, queue })
+        let tag = self.next_number();
+        // A server that acts is asked by another way than requests are: only behind the moment's answer.
+        if self.chain.is_none() {
+            self.write_count(tag, &queue)?;
+        }
+        Ok(Entry::Count { tag, queue, least: None })
     }
 
     /// Asks for something that changes nothing, to see whether the program answers it.
     pub(super) fn probe(&mut self, queue: Arc<Queue>) -> Result<Entry, Ended> {
-        let tag = self.next_tag();
+        let tag = self.next_number();
         self.write_count(tag, &queue)?;
         Ok(Entry::Probe { tag, queue })
     }
 
-    fn next_tag(&mut self) -> u64 {
-        self.last_number += 1;
-        self.last_number
-    }
-
     pub(super) fn write_count(&mut self, tag: u64, queue: &Queue) -> Result<(), Ended> {
-        Ok(lines::append_count(&mut self.out.bytes, tag, queue.state().entry.store)?)
+        let store = queue.state().entry.store;
+        match &self.chain {
+            Some(_) => chain::query(&mut self.out.bytes, frames::count(tag, store)),
+            None => lines::append_count(&mut self.out.bytes, tag, store)?,
+        }
+        Ok(())
     }
 
     /// Whether a change or a delete of this message isn't answered yet. Takes time in proportion to the open requests,
@@ -289,8 +314,8 @@ impl Task {
             return Ok(StartOutcome::ready(Err(SqsError::InvalidParameterValue(message.into()))));
         }
         let ask = Ask::Say { book, entry: Arc::new(entry), text };
-        let raw = serde_json::value::to_raw_value(&AskFields::of(StoreName::of_book(book), 0, &ask))?;
-        self.ask_admitted(queue, ask, raw, self.clock.now(), weight)
+        let written = self.encode(&AskFields::of(StoreName::of_book(book), 0, &ask))?;
+        self.ask_admitted(queue, ask, written, self.clock.now(), weight)
     }
 }
 
@@ -318,6 +343,11 @@ pub(super) fn stamped(mut ask: Ask, queue: &Queue, moment: Moment) -> Ask {
 /// Whether this sends a message of an older journal that a purge has taken meanwhile.
 fn is_purged(ask: &Ask, queue: &Queue) -> bool {
     matches!(ask, Ask::Send { cause: Cause::Older(id), .. } if !queue.state().has_older(*id))
+}
+
+/// Whoever asked for it has asked somebody else by now, or has given up.
+fn too_late() -> SqsError {
+    SqsError::ServiceUnavailable("The time is over in which an answer was wanted.".into())
 }
 
 /// Why no book can say anything.

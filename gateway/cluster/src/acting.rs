@@ -1,0 +1,124 @@
+//! Where the gateway is that acts: the one beside the chain's head, as etcd says.
+
+use std::collections::btree_map::{BTreeMap, Entry};
+use std::net::SocketAddr;
+use std::sync::Arc;
+use std::time::Duration;
+
+use anyhow::{ensure, Context, Result};
+use tokio::sync::{watch, Notify};
+use tokio::time::{sleep, timeout};
+
+use crate::etcd::Operation;
+use crate::records::{self, Chain, Cluster, Registration};
+
+/// So often etcd is looked at where nothing calls for it.
+const ROUND: Duration = Duration::from_millis(500);
+
+/// Between two looks, however much changes.
+const SHORTEST: Duration = Duration::from_millis(10);
+
+/// A gateway that acts, or will once it has begun.
+#[derive(Clone, Copy, Debug, PartialEq, Eq)]
+pub struct Acting {
+    /// The head's number.
+    pub server: u32,
+    pub address: SocketAddr,
+}
+
+/// Follows which gateway acts. Where etcd is away, it stays the one that was known last.
+#[derive(Clone)]
+pub struct Follower {
+    acting: watch::Receiver<Option<Acting>>,
+    look: Arc<Notify>,
+}
+
+impl Follower {
+    /// Finds the cluster, and follows it from then on. An error says why it isn't found.
+    pub async fn begin(name: &str, urls: &[String]) -> Result<Follower> {
+        let cluster = Cluster::find(name, urls).await?.impatient();
+        let (sender, acting) = watch::channel(None);
+        let look = Arc::new(Notify::new());
+        tokio::spawn(cluster.etcd.clone().watch(cluster.keys.chain(), look.clone()));
+        tokio::spawn(follow(cluster, sender, look.clone()));
+        Ok(Follower { acting, look })
+    }
+
+    /// One that is told who acts by a test.
+    pub fn for_tests() -> (watch::Sender<Option<Acting>>, Follower) {
+        let (sender, acting) = watch::channel(None);
+        (sender, Follower { acting, look: Arc::default() })
+    }
+
+    /// The gateway that acts; nothing before it is known, or where the head has none.
+    pub fn acting(&self) -> Option<Acting> {
+        *self.acting.borrow()
+    }
+
+    /// Waits until another one than this acts.
+    pub async fn leaves(&self, known: Option<Acting>) {
+        let mut acting = self.acting.clone();
+        while *acting.borrow_and_update() == known {
+            if acting.changed().await.is_err() {
+                // Nobody follows any more.
+                return std::future::pending().await;
+            }
+        }
+    }
+
+    /// Has etcd looked at at once: the gateway that is known doesn't answer.
+    pub fn look(&self) {
+        self.look.notify_one();
+    }
+}
+
+async fn follow(cluster: Cluster, acting: watch::Sender<Option<Acting>>, look: Arc<Notify>) {
+    let mut known = BTreeMap::new();
+    let mut in_contact = true;
+    loop {
+        match read(&cluster, &mut known).await {
+            Ok(found) => {
+                if !std::mem::replace(&mut in_contact, true) {
+                    tracing::info!("in contact with etcd again");
+                }
+                if *acting.borrow() != found {
+                    tell_of(found);
+                    acting.send_replace(found);
+                }
+            }
+            Err(error) => {
+                if std::mem::replace(&mut in_contact, false) {
+                    tracing::warn!("no contact with etcd, and requests go where they went: {error:#}");
+                }
+            }
+        }
+        let _ = timeout(ROUND, look.notified()).await;
+        sleep(SHORTEST).await;
+    }
+}
+
+fn tell_of(found: Option<Acting>) {
+    match found {
+        Some(Acting { server, address }) => tracing::info!(server, %address, "requests go to the gateway of the head"),
+        None => tracing::warn!("the head has no gateway: requests wait for another head"),
+    }
+}
+
+/// Who acts. Registrations that were read once stay as they are.
+async fn read(cluster: &Cluster, known: &mut BTreeMap<u32, Registration>) -> Result<Option<Acting>> {
+    let chain: Chain = get(cluster, cluster.keys.chain()).await?.context("the cluster has no chain")?;
+    let head = *chain.members.first().context("the chain has no members")?;
+    if let Entry::Vacant(place) = known.entry(head) {
+        if let Some(registration) = get(cluster, cluster.keys.node(head)).await? {
+            place.insert(registration);
+        }
+    }
+    let address = known.get(&head).and_then(|registration| registration.gateway);
+    Ok(address.map(|address| Acting { server: head, address }))
+}
+
+async fn get<T: for<'de> serde::Deserialize<'de>>(cluster: &Cluster, key: String) -> Result<Option<T>> {
+    let outcome = cluster.etcd.transact(&[cluster.guard()], &[Operation::Get(key)], &[]).await?;
+    ensure!(outcome.succeeded, "the cluster of this name is another one now");
+    outcome.read.first().and_then(|found| found.first()).map(records::value).transpose()
+}

@@ -1,0 +1,93 @@
+//! Connections to the nodes of all other servers of the chain: answers come from the one that acts.
+
+use std::io;
+use std::net::SocketAddr;
+use std::sync::Arc;
+use std::time::Duration;
+
+use tokio::io::{AsyncRead, AsyncWrite, AsyncWriteExt};
+use tokio::net::TcpStream;
+use tokio::sync::mpsc::{unbounded_channel, UnboundedReceiver};
+use tokio::time::{sleep, timeout};
+
+use crate::parts::{Frames, FRAME_LIMIT};
+use crate::wire::Frame;
+
+use super::super::connections::{next_connection, other, read};
+use super::super::{Event, Shared};
+use super::{Happening, Heard, CLIENTS};
+
+/// So long a connection may take to begin.
+const CONNECTING: Duration = Duration::from_secs(1);
+
+/// So long it takes until the next try.
+const PAUSE: Duration = Duration::from_millis(50);
+
+/// A node says each half second where its server stands. One of which nothing comes for so long isn't heard any more.
+const QUIET: Duration = Duration::from_secs(2);
+
+/// Who takes no query for so long loses its connection.
+const WRITING: Duration = Duration::from_secs(2);
+
+/// Keeps a connection to a server's node until nobody wants it any more.
+pub async fn listen(server: u32, node: Arc<Shared>) {
+    let mut was_heard = true;
+    loop {
+        if let Some(address) = node.address(server) {
+            let connection = next_connection();
+            let (is_heard, error) = hear(server, connection, address, &node).await;
+            if is_heard || was_heard {
+                tracing::info!(server, %error, "answers of a server aren't heard");
+            }
+            was_heard = is_heard;
+            tell(&node, server, connection, Heard::Ended);
+        }
+        sleep(PAUSE).await;
+    }
+}
+
+fn tell(node: &Shared, server: u32, connection: u64, heard: Heard) {
+    node.tell(Event::Gateway(Happening::Heard { server, connection, heard }));
+}
+
+/// Hears what comes over one connection, until that ends. Says whether there was one, and why it ended.
+async fn hear(server: u32, connection: u64, address: SocketAddr, node: &Shared) -> (bool, io::Error) {
+    let mut is_heard = false;
+    let ended: io::Result<()> = async {
+        let stream = timeout(CONNECTING, TcpStream::connect(address)).await??;
+        stream.set_nodelay(true)?;
+        let (reading, mut writing) = stream.into_split();
+        let greeting = Frame::Client { about: node.about(), first: *CLIENTS.start(), last: *CLIENTS.end() };
+        timeout(CONNECTING, writing.write_all(&greeting.bytes())).await??;
+        is_heard = true;
+        let (asks, asked) = unbounded_channel();
+        tell(node, server, connection, Heard::Begins(asks));
+        tokio::select! {
+            ended = read_all(reading, server, connection, node) => ended,
+            ended = write_all(writing, asked) => ended,
+        }
+    }
+    .await;
+    (is_heard, ended.err().unwrap_or_else(|| other("nobody wants it any more")))
+}
+
+async fn read_all(from: impl AsyncRead + Unpin, server: u32, connection: u64, node: &Shared) -> io::Result<()> {
+    let mut frames = Frames::new(from, FRAME_LIMIT);
+    loop {
+        let frame = read(timeout(QUIET, frames.next()).await??)?;
+        match &frame {
+            Frame::Standing { server: said, .. } if *said != server => return Err(other("it is another server")),
+            Frame::Standing { .. } | Frame::Answer { .. } | Frame::Refused { .. } => {}
+            Frame::Away { why } => return Err(other(why)),
+            _ => return Err(other("a frame came that isn't for a client")),
+        }
+        tell(node, server, connection, Heard::Frame(frame));
+    }
+}
+
+async fn write_all(mut to: impl AsyncWrite + Unpin, mut asked: UnboundedReceiver<Frame>) -> io::Result<()> {
+    while let Some(frame) = asked.recv().await {
+        timeout(WRITING, to.write_all(&frame.bytes())).await??;
+    }
+    Ok(())
+}

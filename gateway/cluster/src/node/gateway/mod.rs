@@ -1,0 +1,370 @@
+//! The gateway beside a node: what the node's task knows of it (docs/CLUSTER.md, "The gateway's pipe").
+//!
+//! The node starts a gateway once its server is the head (`process`), tells it the store, and hears for it what the servers of
+//! the chain answer (`hearing`). A gateway's life begins with a copy of the store, and the copy is asked for behind all that
+//! an earlier life gave to the server: nothing of that one comes later. A gateway's end or silence never ends its node.
+
+mod hearing;
+mod process;
+
+use std::collections::{BTreeMap, BTreeSet, VecDeque};
+use std::net::SocketAddr;
+use std::ops::RangeInclusive;
+use std::path::PathBuf;
+use std::sync::Arc;
+use std::time::{Duration, Instant};
+
+use bytes::Bytes;
+use tokio::sync::mpsc::UnboundedSender;
+use tokio::sync::oneshot;
+use tokio::task::JoinHandle;
+
+use crate::pipe::{FromGateway, FromNode};
+use crate::records::GatewayPhase;
+use crate::wire::Frame;
+
+use super::connections::{next_connection, Outlet};
+use super::streams::{Streams, Work};
+use super::Shared;
+
+/// The client numbers of a gateway.
+const CLIENTS: RangeInclusive<u32> = 0..=256;
+
+/// So many requests of a gateway may wait, and so many queries. It has one request open for each client number.
+const MOST_ASKED: usize = 1024;
+
+/// So often a gateway is told the time.
+const TIME: Duration = Duration::from_millis(500);
+
+/// A gateway that has the store and answers none of so many times, one after the other, doesn't work. They are counted, since
+/// this process may have stood still itself.
+const MOST_UNANSWERED: u32 = 10;
+
+/// How a gateway is started.
+#[derive(Clone, Debug, PartialEq, Eq)]
+pub struct Settings {
+    /// Where it listens.
+    pub listen: SocketAddr,
+    /// Its file of options.
+    pub config: Option<PathBuf>,
+}
+
+/// What happens about a gateway.
+pub enum Happening {
+    /// A process was started, was told the time, and is told something by this. Each has a number of its own. It is ended
+    /// where `wanted` is dropped.
+    Begins { life: u64, outlet: Outlet, wanted: oneshot::Sender<()> },
+    /// It tells something.
+    Told { life: u64, told: FromGateway },
+    /// Something that one was told was written to its socket.
+    Wrote,
+    /// It is gone.
+    Ended { life: u64 },
+    /// Something comes of another server, over the connection with that number.
+    Heard { server: u32, connection: u64, heard: Heard },
+}
+
+/// What comes of another server.
+pub enum Heard {
+    /// There is a connection to its node, by which it can be asked.
+    Begins(UnboundedSender<Frame>),
+    Frame(Frame),
+    Ended,
+}
+
+/// How much of the store a gateway has.
+#[derive(Clone, Copy, PartialEq, Eq)]
+enum Store {
+    None,
+    Some,
+    All,
+}
+
+/// One process of a gateway. It is ended when this is dropped.
+struct Life {
+    number: u64,
+    outlet: Outlet,
+    _wanted: oneshot::Sender<()>,
+    store: Store,
+    /// Whose requests the streams have, once it has all of the store.
+    client: Option<u64>,
+    /// When it was told the time.
+    timed: Instant,
+    /// So many times were told since it said that it works, or had all of the store.
+    unanswered: u32,
+    works: bool,
+}
+
+/// How far the server is with a copy of its store, and for which life that is.
+#[derive(Clone, Copy, Debug, Default, PartialEq, Eq)]
+enum Copying {
+    #[default]
+    No,
+    /// Its next chunk is asked for.
+    Asked(u64),
+    /// Chunks are left, which are to be asked for.
+    Begun(u64),
+    /// There was no memory for it, so that it is gone.
+    Later,
+}
+
+/// A connection to another server's node.
+struct Ear {
+    connection: u64,
+    asks: UnboundedSender<Frame>,
+    acts: bool,
+    /// The number of the last query's stream.
+    stream: u64,
+}
+
+/// All that a node's task knows of the gateway beside it.
+#[derive(Default)]
+pub struct Beside {
+    settings: Option<Settings>,
+    /// Whether a process is kept, or started again and again.
+    is_kept: bool,
+    life: Option<Life>,
+    copy: Copying,
+    listening: BTreeMap<u32, JoinHandle<()>>,
+    ears: BTreeMap<u32, Ear>,
+    /// The server that began to act last, and acts still.
+    acting: Option<u32>,
+    /// Queries for the node's own server.
+    queries: VecDeque<Bytes>,
+}
+
+impl Beside {
+    pub fn new(settings: Option<Settings>) -> Beside {
+        Beside { settings, ..Beside::default() }
+    }
+
+    /// The server is the head: a gateway is kept from now on.
+    pub fn keep(&mut self, node: &Arc<Shared>) {
+        if let Some(settings) = self.settings.clone().filter(|_| !self.is_kept) {
+            self.is_kept = true;
+            tokio::spawn(process::keep(node.clone(), settings));
+        }
+    }
+
+    /// Listens to these servers, and to no others. Nobody listens where no gateway is kept.
+    pub fn listen_to(&mut self, servers: &BTreeSet<u32>, node: &Arc<Shared>) {
+        let gone: Vec<u32> = self.listening.keys().copied().filter(|server| !servers.contains(server)).collect();
+        for server in gone {
+            self.listening.remove(&server).iter().for_each(JoinHandle::abort);
+            self.lose(server);
+        }
+        for server in servers.iter().filter(|_| self.is_kept) {
+            let listen = || tokio::spawn(hearing::listen(*server, node.clone()));
+            self.listening.entry(*server).or_insert_with(listen);
+        }
+    }
+
+    /// How far the gateway is.
+    pub fn phase(&self) -> Option<GatewayPhase> {
+        let works = self.life.as_ref().is_some_and(|life| life.works);
+        self.is_kept.then_some(if works { GatewayPhase::Acts } else { GatewayPhase::Begins })
+    }
+
+    pub fn happen(&mut self, happening: Happening, streams: &mut Streams) {
+        match happening {
+            Happening::Begins { life, outlet, wanted } => {
+                self.end(streams);
+                self.begin(life, outlet, wanted);
+            }
+            Happening::Told { life, told } if self.is_current(life) => self.told(told, streams),
+            Happening::Ended { life } if self.is_current(life) => self.end(streams),
+            // Whether a chunk may be asked for is looked at behind each event.
+            Happening::Told { .. } | Happening::Ended { .. } | Happening::Wrote => {}
+            Happening::Heard { server, connection, heard } => self.heard(server, connection, heard),
+        }
+    }
+
+    fn is_current(&self, life: u64) -> bool {
+        self.life.as_ref().is_some_and(|current| current.number == life)
+    }
+
+    // ---- lives
+
+    fn begin(&mut self, number: u64, outlet: Outlet, wanted: oneshot::Sender<()>) {
+        self.life = Some(Life {
+            number,
+            outlet,
+            _wanted: wanted,
+            store: Store::None,
+            client: None,
+            timed: Instant::now(),
+            unanswered: 0,
+            works: false,
+        });
+    }
+
+    /// What waits of this life is thrown away.
+    fn end(&mut self, streams: &mut Streams) {
+        if let Some(client) = self.life.take().and_then(|life| life.client) {
+            streams.leave(client);
+        }
+        self.queries.clear();
+    }
+
+    /// Ends the process, too.
+    fn give_up(&mut self, why: &str, streams: &mut Streams) {
+        tracing::warn!("the gateway is ended: {why}");
+        self.end(streams);
+    }
+
+    fn told(&mut self, told: FromGateway, streams: &mut Streams) {
+        let Some(life) = &mut self.life else { return };
+        match told {
+            FromGateway::Alive { .. } => {
+                life.unanswered = 0;
+                life.works = life.store == Store::All;
+            }
+            FromGateway::Query { query } => self.query(query),
+            FromGateway::Request { stream, clock, request } => {
+                let Some(client) = life.client else {
+                    return self.give_up("it asks for something before it has the store", streams);
+                };
+                if streams.add(client, stream, Work::Request { request, clock: Some(clock) }) > MOST_ASKED {
+                    self.give_up("it asks for more at once than it has client numbers", streams);
+                }
+            }
+        }
+    }
+
+    /// Some time has passed, and it is this one now.
+    pub fn tick(&mut self, time: &FromNode, streams: &mut Streams) {
+        if self.copy == Copying::Later {
+            self.copy = Copying::No;
+        }
+        let Some(life) = &mut self.life else { return };
+        if life.timed.elapsed() >= TIME {
+            life.timed = Instant::now();
+            life.outlet.send_bytes(time.bytes());
+            life.unanswered += u32::from(life.store == Store::All);
+        }
+        if life.unanswered >= MOST_UNANSWERED {
+            self.give_up("it doesn't say that it works", streams);
+        } else if life.client.is_some_and(|client| !streams.has(client)) {
+            self.give_up("it doesn't read what it is told", streams);
+        }
+    }
+
+    /// Tells the gateway something. Before it has the store nothing of this is about what it asked.
+    fn tell(&mut self, frame: &FromNode) {
+        if let Some(life) = self.life.as_ref().filter(|life| life.store == Store::All) {
+            // One that is gone, or doesn't read, is given up by others.
+            let _ = life.outlet.send_bytes(frame.bytes());
+        }
+    }
+
+    // ---- the copy
+
+    /// Whether the server is to be asked for the next chunk of a copy. If so it counts as asked for.
+    pub fn next_save(&mut self) -> bool {
+        let life = self.life.as_ref();
+        let asked = match self.copy {
+            Copying::No => life.filter(|life| life.store == Store::None).map(|life| life.number),
+            // A copy whose gateway is gone is asked for to its end all the same.
+            Copying::Begun(of) => {
+                let is_ready = life.map_or(true, |life| life.number != of || life.outlet.is_idle());
+                is_ready.then_some(of)
+            }
+            Copying::Asked(_) | Copying::Later => None,
+        };
+        if let Some(life) = asked {
+            self.copy = Copying::Asked(life);
+        }
+        asked.is_some()
+    }
+
+    /// A chunk comes of the node's own server. An empty one is the end of the copy.
+    pub fn saved(&mut self, server: u32, chunk: Bytes, streams: &mut Streams) {
+        let Copying::Asked(of) = self.copy else { return };
+        let is_last = chunk.is_empty();
+        self.copy = if is_last { Copying::No } else { Copying::Begun(of) };
+        let Some(life) = self.life.as_mut().filter(|life| life.number == of) else { return };
+        let frame = if is_last { FromNode::Stored { server } } else { FromNode::Chunk { chunk } };
+        let is_there = life.outlet.send_bytes(frame.bytes());
+        life.store = if is_last { Store::All } else { Store::Some };
+        if is_last {
+            let client = next_connection();
+            life.client = Some(client);
+            streams.enter(client, life.outlet.clone());
+        }
+        if !is_there {
+            self.give_up("it isn't told the store any more", streams);
+        }
+    }
+
+    /// The server refused a chunk, and the copy is gone.
+    pub fn not_saved(&mut self, code: u32, streams: &mut Streams) {
+        let Copying::Asked(of) = self.copy else { return };
+        self.copy = Copying::Later;
+        let has_some = self.life.as_ref().is_some_and(|life| life.number == of && life.store == Store::Some);
+        if has_some {
+            self.give_up(&format!("the copy of the store that it was told is gone, by {code}"), streams);
+        }
+    }
+
+    // ---- servers
+
+    /// Another server's node tells something, or a connection to it begins or ends.
+    fn heard(&mut self, server: u32, connection: u64, heard: Heard) {
+        if let Heard::Begins(asks) = heard {
+            self.lose(server);
+            // It may have been given up by now.
+            if self.listening.contains_key(&server) {
+                self.ears.insert(server, Ear { connection, asks, acts: false, stream: 0 });
+            }
+            return;
+        }
+        let Some(ear) = self.ears.get_mut(&server).filter(|ear| ear.connection == connection) else { return };
+        match heard {
+            Heard::Frame(Frame::Standing { is_acting, .. }) => {
+                let acted = std::mem::replace(&mut ear.acts, is_acting);
+                self.stands(server, acted, is_acting);
+            }
+            Heard::Frame(Frame::Answer { message }) => self.tell(&FromNode::Answer { message }),
+            Heard::Ended => self.lose(server),
+            // A query that is refused is lost.
+            Heard::Begins(_) | Heard::Frame(_) => {}
+        }
+    }
+
+    fn lose(&mut self, server: u32) {
+        self.ears.remove(&server);
+        self.acting = self.acting.filter(|acting| *acting != server);
+    }
+
+    /// A server acted before, and acts now, as far as it says by the connection that there is. What one held that begins to
+    /// act, or that acts behind a new connection, may have been answered to nobody.
+    pub fn stands(&mut self, server: u32, acted: bool, acts: bool) {
+        if acts && !acted {
+            self.acting = Some(server);
+            self.tell(&FromNode::Acts);
+        } else if !acts {
+            self.acting = self.acting.filter(|acting| *acting != server);
+        }
+    }
+
+    fn query(&mut self, query: Bytes) {
+        let Some(acting) = self.acting else { return };
+        match self.ears.get_mut(&acting) {
+            Some(ear) => {
+                // A refusal ends the stream of this query alone.
+                ear.stream += 1;
+                let _ = ear.asks.send(Frame::Query { stream: ear.stream, query });
+            }
+            None if self.queries.len() < MOST_ASKED => self.queries.push_back(query),
+            None => {}
+        }
+    }
+
+    /// The next query for the node's own server.
+    pub fn next_query(&mut self) -> Option<Bytes> {
+        self.queries.pop_front()
+    }
+}
+
+#[cfg(test)]
+mod tests;

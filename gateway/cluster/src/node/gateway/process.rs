@@ -1,0 +1,275 @@
+//! The processes of a gateway, one after the other.
+
+use std::os::fd::OwnedFd;
+use std::os::unix::net::UnixStream as Socket;
+use std::os::unix::process::CommandExt;
+use std::process::{Command, Stdio};
+use std::sync::atomic::AtomicUsize;
+use std::sync::{mpsc, Arc};
+use std::time::{Duration, Instant};
+use std::{io, thread};
+
+use bytes::Bytes;
+use tokio::io::{AsyncRead, AsyncWrite};
+use tokio::net::UnixStream;
+use tokio::sync::mpsc::{unbounded_channel, UnboundedReceiver};
+use tokio::sync::oneshot;
+use tokio::time::sleep;
+
+use crate::child::{end_with_this_process, said};
+use crate::parts::{Frames, FRAME_LIMIT};
+use crate::pipe::{FromGateway, FromNode};
+use crate::wire::Frame;
+
+use super::super::connections::{next_connection, other, write_some, Outlet};
+use super::super::{Event, Shared};
+use super::{Happening, Settings, CLIENTS};
+
+/// So many bytes may wait for a gateway. It has few open requests, and answers to these may be large.
+const MOST_WAITING: usize = 256 << 20;
+
+/// The second pause between two gateways that ended early; each further one is twice as long. There is no first one.
+const SHORTEST_PAUSE: Duration = Duration::from_millis(100);
+
+/// No pause is longer.
+const LONGEST_PAUSE: Duration = Duration::from_secs(5);
+
+/// Behind a gateway that was there for so long the next one begins at once.
+const LONG: Duration = Duration::from_secs(10);
+
+/// Keeps a gateway for good: where one ends, another one is started.
+pub async fn keep(node: Arc<Shared>, settings: Settings) {
+    let mut pause = Duration::ZERO;
+    loop {
+        let begun = Instant::now();
+        let why = live(&node, &settings).await;
+        if begun.elapsed() >= LONG {
+            pause = Duration::ZERO;
+        }
+        tracing::warn!(pause = ?pause, "the gateway is gone, and is started again: {why}");
+        sleep(pause).await;
+        pause = next_pause(pause);
+    }
+}
+
+fn next_pause(pause: Duration) -> Duration {
+    (2 * pause).clamp(SHORTEST_PAUSE, LONGEST_PAUSE)
+}
+
+/// One process from its start to its end. Says why it ended.
+async fn live(node: &Shared, settings: &Settings) -> String {
+    let started = match command(settings) {
+        Ok((command, socket)) => spawn(command, socket).await,
+        Err(error) => Err(error),
+    };
+    match started {
+        Ok((socket, process)) => {
+            let life = next_connection();
+            tracing::info!(life, listen = %settings.listen, process = process.id, "a gateway begins");
+            let tell = |happening| node.tell(Event::Gateway(happening));
+            let why = converse(socket, life, &node.time_for_gateway(), &tell).await;
+            tell(Happening::Ended { life });
+            format!("{why}; {}", process.end().await)
+        }
+        Err(error) => format!("it can't be started: {error}"),
+    }
+}
+
+// ---- the process
+
+/// A process that is ended when this is dropped.
+struct Process {
+    id: u32,
+    /// Nothing is sent by this: it is closed.
+    wanted: mpsc::Sender<()>,
+    ended: oneshot::Receiver<String>,
+}
+
+impl Process {
+    /// Ends it, if it hasn't ended already, and says how it did.
+    async fn end(self) -> String {
+        drop(self.wanted);
+        self.ended.await.unwrap_or_else(|_| "nobody knows how it ended".into())
+    }
+}
+
+/// The command, and this end of the socket that is its standard input.
+fn command(settings: &Settings) -> io::Result<(Command, Socket)> {
+    let (own, other) = Socket::pair()?;
+    own.set_nonblocking(true)?;
+    let mut command = Command::new(std::env::current_exe()?);
+    command.args(["serve", "--beside-node", "--host", &settings.listen.ip().to_string()]);
+    command.args(["--port", &settings.listen.port().to_string()]);
+    if let Some(config) = &settings.config {
+        command.arg("--config").arg(config);
+    }
+    // A node may be told by these where fronts find its cluster. This one is no front.
+    command.env_remove("HOBBYCHAIR_CLUSTER").env_remove("HOBBYCHAIR_ETCD");
+    command.stdin(Stdio::from(OwnedFd::from(other))).process_group(0);
+    end_with_this_process(&mut command);
+    Ok((command, own))
+}
+
+async fn spawn(command: Command, socket: Socket) -> io::Result<(UnixStream, Process)> {
+    let (wanted, is_wanted) = mpsc::channel();
+    let (started, starting) = oneshot::channel();
+    let (tell, ended) = oneshot::channel();
+    let keep = move || keep_process(command, started, &is_wanted, tell);
+    thread::Builder::new().name("gateway".into()).spawn(keep)?;
+    let id = starting.await.map_err(|_| io::Error::from(io::ErrorKind::BrokenPipe))??;
+    Ok((UnixStream::from_std(socket)?, Process { id, wanted, ended }))
+}
+
+/// The system ends the process with the thread that started it: this one is there until nobody wants the process.
+fn keep_process(
+    mut command: Command,
+    started: oneshot::Sender<io::Result<u32>>,
+    is_wanted: &mpsc::Receiver<()>,
+    ended: oneshot::Sender<String>,
+) {
+    let begun = command.spawn();
+    // It has the other end of the socket: who reads from this one hears of the process's end.
+    drop(command);
+    match begun {
+        Ok(mut process) => {
+            let _ = started.send(Ok(process.id()));
+            while is_wanted.recv().is_ok() {}
+            // One that has ended already needs no end.
+            let _ = process.kill();
+            let _ = ended.send(process.wait().map_or_else(|error| error.to_string(), said));
+        }
+        Err(error) => drop(started.send(Err(error))),
+    }
+}
+
+// ---- its socket
+
+/// Carries what is told and heard until the gateway's life is over. Says why it is.
+async fn converse(socket: UnixStream, life: u64, time: &FromNode, tell: &impl Fn(Happening)) -> String {
+    let (frames, told) = unbounded_channel();
+    let (wanted, is_wanted) = oneshot::channel();
+    let waiting = Arc::new(AtomicUsize::new(0));
+    let outlet = Outlet::to_another(CLIENTS, frames, waiting.clone(), MOST_WAITING, as_gateway_hears);
+    // The first time goes ahead of all else.
+    outlet.send_bytes(time.bytes());
+    tell(Happening::Begins { life, outlet, wanted });
+    let (reading, writing) = socket.into_split();
+    let ended = tokio::select! {
+        ended = read_all(reading, life, tell) => ended,
+        ended = write_all(writing, told, &waiting, tell) => ended,
+        _ = is_wanted => Ok(()),
+    };
+    match ended {
+        Err(error) if error.kind() == io::ErrorKind::UnexpectedEof => "its end of the socket is closed".into(),
+        Err(error) if error.kind() == io::ErrorKind::TimedOut => "it takes nothing".into(),
+        Err(error) => error.to_string(),
+        Ok(()) => "the node gave it up".into(),
+    }
+}
+
+/// What of a client's frames a gateway is told. Where servers stand it hears in another way.
+pub fn as_gateway_hears(frame: &Frame) -> Option<Vec<u8>> {
+    match frame {
+        Frame::Answer { message } => Some(FromNode::Answer { message: message.clone() }.bytes()),
+        Frame::Refused { stream, code, request } => {
+            Some(FromNode::Refused { stream: *stream, code: *code, request: *request }.bytes())
+        }
+        _ => None,
+    }
+}
+
+async fn read_all(from: impl AsyncRead + Unpin, life: u64, tell: &impl Fn(Happening)) -> io::Result<()> {
+    let mut frames = Frames::new(from, FRAME_LIMIT);
+    loop {
+        let told = FromGateway::read(frames.next().await?).map_err(|malformed| other(&malformed.to_string()))?;
+        tell(Happening::Told { life, told });
+    }
+}
+
+async fn write_all(
+    mut to: impl AsyncWrite + Unpin,
+    mut told: UnboundedReceiver<Bytes>,
+    waiting: &AtomicUsize,
+    tell: &impl Fn(Happening),
+) -> io::Result<()> {
+    while write_some(&mut told, &mut to, waiting).await? {
+        tell(Happening::Wrote);
+    }
+    Ok(())
+}
+
+#[cfg(test)]
+mod tests {
+    use super::*;
+    use tokio::io::AsyncWriteExt;
+
+    fn shell(script: &str) -> (Command, Socket) {
+        let (own, other) = Socket::pair().unwrap();
+        own.set_nonblocking(true).unwrap();
+        let mut command = Command::new("/bin/sh");
+        command.args(["-c", script]).stdin(Stdio::from(OwnedFd::from(other)));
+        end_with_this_process(&mut command);
+        (command, own)
+    }
+
+    #[tokio::test]
+    async fn a_process_that_ends_closes_its_socket_and_one_that_goes_on_is_ended() {
+        let (command, socket) = shell("exit 3");
+        let (socket, process) = spawn(command, socket).await.unwrap();
+        let read = Frames::new(socket, FRAME_LIMIT).next().await;
+        assert_eq!(read.unwrap_err().kind(), io::ErrorKind::UnexpectedEof);
+        assert_eq!(process.end().await, "it ended with status 3");
+        let (command, socket) = shell("exec sleep 60");
+        let (_socket, process) = spawn(command, socket).await.unwrap();
+        assert_eq!(process.end().await, "it ended by signal 9");
+        let (_, socket) = shell("");
+        assert!(spawn(Command::new("/nowhere/hobbychair"), socket).await.is_err());
+    }
+
+    /// The next frame that a gateway reads.
+    async fn read(frames: &mut Frames<UnixStream>) -> io::Result<FromNode> {
+        Ok(FromNode::read(frames.next().await?).unwrap())
+    }
+
+    #[tokio::test]
+    async fn a_gateway_is_told_the_time_first_and_what_it_tells_is_heard_until_nobody_wants_it() {
+        let (own, far) = UnixStream::pair().unwrap();
+        let (tell, mut heard) = unbounded_channel();
+        let time = FromNode::Time { time: 7, since_start: 3 };
+        let said = time.clone();
+        let life = tokio::spawn(async move { converse(own, 5, &said, &|one| drop(tell.send(one))).await });
+        let mut frames = Frames::new(far, FRAME_LIMIT);
+        assert_eq!(read(&mut frames).await.unwrap(), time);
+        let Some(Happening::Begins { life: 5, outlet, wanted }) = heard.recv().await else {
+            panic!("it doesn't begin")
+        };
+        assert!(matches!(heard.recv().await, Some(Happening::Wrote)) && outlet.is_idle());
+        // What is for it of a client's frames.
+        outlet.send(&Frame::Standing { server: 1, is_head: true, is_acting: true });
+        outlet.send(&Frame::Refused { stream: 4, code: 20, request: None });
+        assert_eq!(read(&mut frames).await.unwrap(), FromNode::Refused { stream: 4, code: 20, request: None });
+        let alive = FromGateway::Alive { time: 7 };
+        frames.reader().write_all(&alive.bytes()).await.unwrap();
+        while !matches!(heard.recv().await, Some(Happening::Told { life: 5, told }) if told == alive) {}
+        drop(wanted);
+        assert_eq!(life.await.unwrap(), "the node gave it up");
+        assert_eq!(read(&mut frames).await.unwrap_err().kind(), io::ErrorKind::UnexpectedEof);
+    }
+
+    #[tokio::test]
+    async fn what_is_no_frame_ends_a_gateways_life() {
+        let (own, mut far) = UnixStream::pair().unwrap();
+        far.write_all(&FromNode::Acts.bytes()).await.unwrap();
+        // Whoever is told that it begins keeps it.
+        let (keep, _kept) = unbounded_channel();
+        let why = converse(own, 5, &FromNode::Acts, &|one| drop(keep.send(one))).await;
+        assert_eq!(why, "its kind is none of what a gateway tells");
+    }
+
+    #[test]
+    fn pauses_begin_at_nothing_and_have_an_end() {
+        let pauses = std::iter::successors(Some(Duration::ZERO), |pause| Some(next_pause(*pause)));
+        let milliseconds: Vec<u128> = pauses.take(9).map(|pause| pause.as_millis()).collect();
+        assert_eq!(milliseconds, [0, 100, 200, 400, 800, 1600, 3200, 5000, 5000]);
+    }
+}

@@ -1,0 +1,280 @@
+//! Rules of a gateway's life, without processes.
+
+use std::future::pending;
+
+use tokio::sync::mpsc::{unbounded_channel, UnboundedReceiver};
+
+use super::super::connections::Outlet;
+use super::*;
+use crate::commands::Standing;
+
+const HEAD: Standing = Standing { count: 0, acked: 0, last: 0, is_head: true, is_acting: false, is_full: true };
+
+const TIMED: FromNode = FromNode::Time { time: 7, since_start: 3 };
+
+/// A gateway's end of the pipe.
+struct Far {
+    frames: UnboundedReceiver<Bytes>,
+    waiting: Arc<std::sync::atomic::AtomicUsize>,
+    is_wanted: oneshot::Receiver<()>,
+}
+
+impl Far {
+    /// All that it is told, which it reads by that.
+    fn heard(&mut self) -> Vec<FromNode> {
+        let mut heard = Vec::new();
+        while let Ok(bytes) = self.frames.try_recv() {
+            self.waiting.fetch_sub(bytes.len(), std::sync::atomic::Ordering::Relaxed);
+            heard.push(FromNode::read(bytes.slice(4..)).unwrap());
+        }
+        heard
+    }
+
+    fn is_ended(&mut self) -> bool {
+        matches!(self.is_wanted.try_recv(), Err(oneshot::error::TryRecvError::Closed))
+    }
+}
+
+fn begin(beside: &mut Beside, streams: &mut Streams, life: u64) -> Far {
+    let ((frames, told), waiting) = (unbounded_channel(), Arc::default());
+    let (wanted, is_wanted) = oneshot::channel();
+    let outlet = Outlet::to_another(CLIENTS, frames, Arc::clone(&waiting), 1 << 20, process::as_gateway_hears);
+    beside.happen(Happening::Begins { life, outlet, wanted }, streams);
+    Far { frames: told, waiting, is_wanted }
+}
+
+fn chunk(text: &'static str) -> Bytes {
+    Bytes::from_static(text.as_bytes())
+}
+
+/// A gateway that has all of the store.
+fn begun(streams: &mut Streams) -> (Beside, Far) {
+    let mut beside = Beside::default();
+    let mut far = begin(&mut beside, streams, 1);
+    assert!(beside.next_save());
+    beside.saved(1, Bytes::new(), streams);
+    assert_eq!(far.heard(), [FromNode::Stored { server: 1 }]);
+    (beside, far)
+}
+
+fn ask(beside: &mut Beside, streams: &mut Streams, stream: u64, text: &'static str) {
+    let told = FromGateway::Request { stream, clock: 5, request: chunk(text) };
+    let life = beside.life.as_ref().map_or(0, |life| life.number);
+    beside.happen(Happening::Told { life, told }, streams);
+}
+
+fn next(streams: &mut Streams) -> Option<(u64, Work)> {
+    streams.next(&HEAD).map(|turn| (turn.client, turn.work))
+}
+
+fn stamped(text: &'static str) -> Work {
+    Work::Request { request: chunk(text), clock: Some(5) }
+}
+
+#[test]
+fn a_chunk_is_asked_for_once_the_one_before_was_written() {
+    let (mut beside, mut streams) = (Beside::default(), Streams::default());
+    assert!(!beside.next_save(), "there is no gateway");
+    let mut far = begin(&mut beside, &mut streams, 1);
+    assert!(beside.next_save() && !beside.next_save());
+    beside.saved(1, chunk("one"), &mut streams);
+    assert!(!beside.next_save(), "the first one isn't written yet");
+    assert_eq!(far.heard(), [FromNode::Chunk { chunk: chunk("one") }]);
+    assert!(beside.next_save());
+    beside.saved(1, Bytes::new(), &mut streams);
+    assert_eq!(far.heard(), [FromNode::Stored { server: 1 }]);
+    assert!(!beside.next_save(), "it has all of the store");
+}
+
+#[test]
+fn requests_of_an_earlier_gateway_are_thrown_away_and_its_copy_is_asked_for_to_its_end() {
+    let mut streams = Streams::default();
+    let (mut beside, mut first) = begun(&mut streams);
+    for text in ["a", "b"] {
+        ask(&mut beside, &mut streams, 1, text);
+    }
+    let (client, given) = next(&mut streams).unwrap();
+    assert_eq!(given, stamped("a"));
+    let mut second = begin(&mut beside, &mut streams, 2);
+    assert!(first.is_ended());
+    streams.answered(client, true, None);
+    assert_eq!(next(&mut streams), None, "what waits isn't given");
+    assert!(beside.next_save());
+    beside.saved(1, chunk("one"), &mut streams);
+    let mut third = begin(&mut beside, &mut streams, 3);
+    for rest in [chunk("two"), Bytes::new()] {
+        assert!(beside.next_save(), "nobody waits for what nobody is told");
+        beside.saved(1, rest, &mut streams);
+    }
+    assert_eq!(second.heard(), [FromNode::Chunk { chunk: chunk("one") }]);
+    assert_eq!(third.heard(), []);
+    assert!(beside.next_save(), "another copy begins");
+    beside.saved(1, Bytes::new(), &mut streams);
+    assert_eq!(third.heard(), [FromNode::Stored { server: 1 }]);
+    let late = FromGateway::Request { stream: 9, clock: 5, request: chunk("c") };
+    beside.happen(Happening::Told { life: 1, told: late }, &mut streams);
+    beside.happen(Happening::Ended { life: 1 }, &mut streams);
+    assert_eq!(next(&mut streams), None, "nobody hears the first one any more");
+    ask(&mut beside, &mut streams, 1, "d");
+    assert_eq!(next(&mut streams).unwrap().1, stamped("d"));
+}
+
+#[test]
+fn a_copy_for_which_there_is_no_memory_begins_again() {
+    let (mut beside, mut streams) = (Beside::default(), Streams::default());
+    let mut far = begin(&mut beside, &mut streams, 1);
+    assert!(beside.next_save());
+    beside.not_saved(20, &mut streams);
+    assert!(!beside.next_save(), "not at once");
+    beside.tick(&TIMED, &mut streams);
+    assert!(beside.next_save() && !far.is_ended());
+    beside.saved(1, chunk("one"), &mut streams);
+    far.heard();
+    assert!(beside.next_save());
+    beside.not_saved(20, &mut streams);
+    assert!(far.is_ended(), "it has a part of a store that nobody has any more");
+    beside.tick(&TIMED, &mut streams);
+    assert!(!beside.next_save());
+}
+
+#[test]
+fn a_refusal_is_told_once_and_nothing_behind_it_is_given() {
+    let mut streams = Streams::default();
+    let (mut beside, mut far) = begun(&mut streams);
+    for text in ["a", "b"] {
+        ask(&mut beside, &mut streams, 4, text);
+    }
+    let (client, _) = next(&mut streams).unwrap();
+    streams.answered(client, true, Some(20));
+    ask(&mut beside, &mut streams, 4, "c");
+    assert_eq!(next(&mut streams), None);
+    assert_eq!(far.heard(), [FromNode::Refused { stream: 4, code: 20, request: None }]);
+    ask(&mut beside, &mut streams, 5, "a");
+    assert_eq!(next(&mut streams).unwrap().1, stamped("a"));
+}
+
+#[test]
+fn who_asks_before_it_has_the_store_is_ended() {
+    let (mut beside, mut streams) = (Beside::default(), Streams::default());
+    let mut far = begin(&mut beside, &mut streams, 1);
+    ask(&mut beside, &mut streams, 1, "a");
+    assert!(far.is_ended() && next(&mut streams).is_none());
+}
+
+#[test]
+fn who_says_nothing_is_ended_once_it_has_the_store() {
+    let mut streams = Streams::default();
+    let (mut beside, mut far) = begun(&mut streams);
+    let tick = |beside: &mut Beside, streams: &mut Streams| {
+        if let Some(life) = &mut beside.life {
+            life.timed = Instant::now().checked_sub(TIME).unwrap();
+        }
+        beside.tick(&TIMED, streams);
+    };
+    assert!(beside.phase().is_none(), "none is kept");
+    beside.is_kept = true;
+    assert_eq!(beside.phase(), Some(GatewayPhase::Begins));
+    for round in 1..2 * MOST_UNANSWERED {
+        tick(&mut beside, &mut streams);
+        assert_eq!(far.heard(), [TIMED]);
+        if round % (MOST_UNANSWERED - 1) == 0 {
+            beside.happen(Happening::Told { life: 1, told: FromGateway::Alive { time: 7 } }, &mut streams);
+            assert_eq!(beside.phase(), Some(GatewayPhase::Acts));
+        }
+    }
+    beside.happen(Happening::Told { life: 1, told: FromGateway::Alive { time: 7 } }, &mut streams);
+    for _ in 0..MOST_UNANSWERED {
+        assert!(!far.is_ended());
+        tick(&mut beside, &mut streams);
+    }
+    assert!(far.is_ended());
+    assert_eq!(beside.phase(), Some(GatewayPhase::Begins));
+}
+
+// ---- what it hears of other servers
+
+fn listen(beside: &mut Beside, server: u32, connection: u64) -> UnboundedReceiver<Frame> {
+    beside.listening.entry(server).or_insert_with(|| tokio::spawn(pending()));
+    let (asks, asked) = unbounded_channel();
+    hear(beside, server, connection, Heard::Begins(asks));
+    asked
+}
+
+fn hear(beside: &mut Beside, server: u32, connection: u64, heard: Heard) {
+    beside.happen(Happening::Heard { server, connection, heard }, &mut Streams::default());
+}
+
+fn stand(beside: &mut Beside, server: u32, connection: u64, is_acting: bool) {
+    hear(beside, server, connection, Heard::Frame(Frame::Standing { server, is_head: false, is_acting }));
+}
+
+fn answer(beside: &mut Beside, server: u32, connection: u64, text: &'static str) {
+    hear(beside, server, connection, Heard::Frame(Frame::Answer { message: chunk(text) }));
+}
+
+fn answered(text: &'static str) -> FromNode {
+    FromNode::Answer { message: chunk(text) }
+}
+
+#[tokio::test]
+async fn it_is_told_that_another_server_acts_behind_the_answers_that_came_before() {
+    let mut streams = Streams::default();
+    let (mut beside, mut far) = begun(&mut streams);
+    let _asked = [listen(&mut beside, 2, 12), listen(&mut beside, 3, 13)];
+    stand(&mut beside, 3, 13, true);
+    answer(&mut beside, 3, 13, "a");
+    stand(&mut beside, 2, 12, false);
+    stand(&mut beside, 3, 13, true);
+    stand(&mut beside, 2, 12, true);
+    answer(&mut beside, 2, 12, "b");
+    answer(&mut beside, 3, 13, "late");
+    assert_eq!(far.heard(), [FromNode::Acts, answered("a"), FromNode::Acts, answered("b"), answered("late")]);
+}
+
+#[tokio::test]
+async fn it_is_told_so_again_behind_a_broken_connection() {
+    let mut streams = Streams::default();
+    let (mut beside, mut far) = begun(&mut streams);
+    let _asked = listen(&mut beside, 3, 13);
+    stand(&mut beside, 3, 13, true);
+    hear(&mut beside, 3, 13, Heard::Ended);
+    let _asked = listen(&mut beside, 3, 14);
+    answer(&mut beside, 3, 13, "of a connection that is no more");
+    stand(&mut beside, 3, 14, true);
+    assert_eq!(far.heard(), [FromNode::Acts, FromNode::Acts]);
+}
+
+#[tokio::test]
+async fn nothing_of_servers_is_told_before_the_store() {
+    let (mut beside, mut streams) = (Beside::default(), Streams::default());
+    let mut far = begin(&mut beside, &mut streams, 1);
+    let _asked = listen(&mut beside, 3, 13);
+    stand(&mut beside, 3, 13, true);
+    answer(&mut beside, 3, 13, "of an earlier one");
+    assert_eq!(far.heard(), []);
+    assert_eq!(beside.acting, Some(3));
+}
+
+#[tokio::test]
+async fn a_query_goes_to_the_server_that_acts_or_is_lost() {
+    let mut streams = Streams::default();
+    let (mut beside, _far) = begun(&mut streams);
+    let query = |beside: &mut Beside, streams: &mut Streams, text| {
+        let told = FromGateway::Query { query: chunk(text) };
+        beside.happen(Happening::Told { life: 1, told }, streams);
+    };
+    query(&mut beside, &mut streams, "nobody acts");
+    let mut asked = listen(&mut beside, 3, 13);
+    stand(&mut beside, 3, 13, true);
+    query(&mut beside, &mut streams, "a");
+    query(&mut beside, &mut streams, "b");
+    let frame = |stream, text| Frame::Query { stream, query: chunk(text) };
+    assert_eq!([asked.try_recv().unwrap(), asked.try_recv().unwrap()], [frame(1, "a"), frame(2, "b")]);
+    assert_eq!(beside.next_query(), None);
+    stand(&mut beside, 3, 13, false);
+    query(&mut beside, &mut streams, "nobody acts");
+    beside.stands(1, false, true);
+    query(&mut beside, &mut streams, "c");
+    assert_eq!(beside.next_query(), Some(chunk("c")));
+    assert!(asked.try_recv().is_err() && beside.next_query().is_none());
+}

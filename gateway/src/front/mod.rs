@@ -1,0 +1,187 @@
+//! A front of a cluster: it passes requests on to the gateway that acts, and keeps no state (docs/CLUSTER.md, "Fronts").
+
+mod headers;
+mod passing;
+mod times;
+
+use std::io;
+use std::os::unix::io::AsRawFd;
+use std::sync::Arc;
+use std::time::Duration;
+
+use anyhow::{Context, Result};
+use bytes::Bytes;
+use hobbychair_cluster::acting::Follower;
+use hyper::header::{HeaderValue, CONNECTION};
+use hyper::server::conn::Http;
+use hyper::service::service_fn;
+use hyper::{Body, Request, Response};
+use tokio::net::{TcpListener, TcpStream};
+use tokio::signal::unix::{signal, SignalKind};
+use tokio::sync::Semaphore;
+use tokio::time::{timeout, Instant};
+use uuid::Uuid;
+
+use crate::budget::{Budget, Share};
+use crate::config::Misuse;
+use crate::ending::{End, Ending};
+use crate::errors::SqsError;
+use crate::http::{bodies, is_of_this_machine, listen, protocol_of, refused, to_be_written, Places};
+use crate::http::{Progress, Watched, LONGEST_HEAD};
+use crate::serve::{notify_supervisor, say};
+
+use self::headers::Asked;
+use self::passing::Passing;
+
+/// A request is whole so long after its first byte.
+const LONGEST_REQUEST: Duration = Duration::from_secs(30);
+
+/// Between two looks for a connection where accepting them failed.
+const PAUSE: Duration = Duration::from_millis(50);
+
+/// So long a signal waits for open requests.
+const LAST_ANSWERS: Duration = Duration::from_secs(8);
+
+/// What a front is told at its start.
+#[derive(Clone, Debug)]
+pub struct Settings {
+    pub cluster: String,
+    /// The members of etcd.
+    pub etcd: Vec<String>,
+    pub host: String,
+    pub port: u16,
+    /// Everybody is served also from other machines.
+    pub open: bool,
+    pub connections: u32,
+    /// So many bytes may be kept by all requests that are being passed on.
+    pub request_memory: usize,
+}
+
+/// Passes requests on until a signal comes. An error says why it couldn't begin.
+pub async fn serve(settings: Settings) -> Result<()> {
+    let (mut interrupt, mut terminate) = (signal(SignalKind::interrupt())?, signal(SignalKind::terminate())?);
+    let (host, port) = (&settings.host, settings.port);
+    let listener = listen(host, port).with_context(|| format!("can't listen on {host}:{port}"))?;
+    let local = listener.local_addr()?;
+    if !settings.open && !is_of_this_machine(local.ip()) {
+        let why = "without --credentials only this machine is served, by an address of 127.0.0.0/8 or by ::1. \
+                   To serve everybody who can reach the gateway, say --open";
+        return Err(Misuse(format!("{host}: {why}")).into());
+    }
+    let places = Places::for_front(settings.connections)?;
+    let follower = Follower::begin(&settings.cluster, &settings.etcd).await?;
+    let front = Arc::new(Front { passing: Passing::new(follower), budget: Budget::new(settings.request_memory) });
+    let (end, ending) = End::new();
+    let mut served = tokio::spawn(front.serve(listener, places.served, ending));
+    notify_supervisor(sd_notify::NotifyState::Ready);
+    say(&format!("listening on http://{local}"));
+    tokio::select! {
+        _ = interrupt.recv() => {}
+        _ = terminate.recv() => {}
+        ended = &mut served => anyhow::bail!("the server ended: {ended:?}"),
+    }
+    notify_supervisor(sd_notify::NotifyState::Stopping);
+    tracing::info!("ending");
+    end.announce();
+    if timeout(LAST_ANSWERS, served).await.is_err() {
+        tracing::warn!("some requests were cut off");
+    }
+    Ok(())
+}
+
+/// What all connections share.
+struct Front {
+    passing: Passing,
+    budget: Budget,
+}
+
+/// What the requests of one connection share, one after the other.
+struct Visit {
+    front: Arc<Front>,
+    progress: Progress,
+    share: Arc<Share>,
+}
+
+impl Front {
+    /// Serves so many connections at once until the end comes, and then until all have ended. More wait until there is a
+    /// place.
+    async fn serve(self: Arc<Front>, listener: TcpListener, most: u32, mut ending: Ending) {
+        let places = Arc::new(Semaphore::new(most as usize));
+        while let Ok(place) = places.clone().acquire_owned().await {
+            let accepted = tokio::select! {
+                accepted = listener.accept() => accepted,
+                () = ending.comes() => break,
+            };
+            let Ok((stream, _)) = accepted else {
+                tokio::time::sleep(PAUSE).await;
+                continue;
+            };
+            let (front, ending) = (self.clone(), ending.clone());
+            tokio::spawn(async move {
+                let _place = place;
+                front.converse(stream, ending).await;
+            });
+        }
+        drop(listener);
+        // Whoever calls this says how long it may take.
+        let _ = places.acquire_many(most).await;
+    }
+
+    async fn converse(self: Arc<Front>, stream: TcpStream, mut ending: Ending) {
+        // Where this fails, small answers wait a little longer.
+        let _ = stream.set_nodelay(true);
+        let progress = Progress::new(LONGEST_REQUEST).of_socket(stream.as_raw_fd());
+        let stream = Watched::new(stream, progress.clone());
+        let share = Arc::new(self.budget.share());
+        let visit = Arc::new(Visit { front: self, progress: progress.clone(), share });
+        let mut http = Http::new();
+        http.http1_only(true).max_buf_size(LONGEST_HEAD);
+        let connection = http.serve_connection(stream, service_fn(move |request| visit.clone().handle(request)));
+        tokio::pin!(connection);
+        let ended = tokio::select! {
+            ended = connection.as_mut() => ended,
+            () = ending.comes() => {
+                // hyper would wait for the first request of a connection that has had none.
+                if !progress.is_begun() {
+                    return;
+                }
+                connection.as_mut().graceful_shutdown();
+                connection.await
+            }
+        };
+        if let Err(error) = ended {
+            tracing::debug!("a connection ended: {error}");
+        }
+    }
+}
+
+impl Visit {
+    /// Answers a request. Where its client goes, what is asked for is given up.
+    async fn handle(self: Arc<Visit>, request: Request<Body>) -> io::Result<Response<Body>> {
+        let mut response = tokio::select! {
+            biased;
+            response = self.answer(request) => response,
+            () = self.progress.leaves() => return Err(io::ErrorKind::ConnectionAborted.into()),
+        };
+        if self.progress.answers(response.body().len() as u64) {
+            response.headers_mut().insert(CONNECTION, HeaderValue::from_static("close"));
+        }
+        Ok(to_be_written(response, &self.share))
+    }
+
+    async fn answer(&self, request: Request<Body>) -> Response<Bytes> {
+        let arrived = Instant::now();
+        let (head, body) = request.into_parts();
+        let protocol = protocol_of(&head.headers);
+        let body = match bodies::read(body, &self.share, self.progress.deadline(arrived)).await {
+            Ok(body) => body,
+            Err(error) => return refused(protocol, &error, Uuid::new_v4(), true),
+        };
+        self.progress.is_read();
+        let passed = match Asked::of(head, body) {
+            Some(asked) => self.front.passing.pass(&asked, arrived, &self.share).await,
+            None => Err(SqsError::InvalidParameterValue("A front can't pass this request on.".into())),
+        };
+        passed.unwrap_or_else(|error| refused(protocol, &error, Uuid::new_v4(), false))
+    }
+}

@@ -1,0 +1,195 @@
+//! Passes a request on, again and again where that is needed.
+//!
+//! A request is asked at the gateway that acts, and again at the next one where no answer comes. All tries have the same call
+//! and the same end, so that a gateway that wakes up late asks the store for nothing that was answered otherwise.
+
+use std::time::Duration;
+
+use bytes::{Bytes, BytesMut};
+use hobbychair_cluster::acting::{Acting, Follower};
+use hyper::body::HttpBody;
+use hyper::client::HttpConnector;
+use hyper::{Body, Client, Request, Response};
+use thiserror::Error;
+use tokio::sync::Mutex;
+use tokio::time::{sleep_until, timeout, Instant};
+
+use crate::budget::Share;
+use crate::errors::SqsError;
+
+use super::headers::{as_answered, time_of, Asked, Try};
+use super::times::{milliseconds, Times};
+
+/// A request is asked again until so long after it came.
+const ASKING: Duration = Duration::from_secs(20);
+
+/// A gateway has so long to answer, which is longer than the longest poll.
+const LONGEST_TRY: Duration = Duration::from_secs(25);
+
+/// Between two tries at one gateway.
+const PAUSE: Duration = Duration::from_millis(50);
+
+/// A connection to a gateway comes about in this time.
+const CONNECTING: Duration = Duration::from_secs(1);
+
+/// A gateway has so long to tell the time.
+const TELLING: Duration = Duration::from_secs(2);
+
+/// A connection that isn't used for so long is closed.
+const IDLE: Duration = Duration::from_secs(30);
+
+/// No answer is longer: ten messages in JSON have less.
+const LONGEST_ANSWER: usize = 64 << 20;
+
+/// Why a try came to nothing.
+#[derive(Debug, Error)]
+enum Failed {
+    #[error("{0}")]
+    Connection(#[from] hyper::Error),
+    #[error("it answers nothing")]
+    Silent,
+    #[error("it tells no time, so it isn't a gateway that acts")]
+    NoTime,
+    #[error("another one acts")]
+    Changed,
+    #[error("its answer is too long")]
+    TooLong,
+    #[error("there is no room for its answer")]
+    NoRoom,
+    #[error("the request can't be written")]
+    Unwritable,
+}
+
+/// What a try is told.
+#[derive(Clone, Copy)]
+struct Wanted {
+    until: Instant,
+    is_again: bool,
+}
+
+/// Passes requests on to whichever gateway acts.
+pub struct Passing {
+    follower: Follower,
+    client: Client<HttpConnector, Body>,
+    times: Times,
+    /// Held by the one who asks for the time.
+    asking: Mutex<()>,
+}
+
+impl Passing {
+    pub fn new(follower: Follower) -> Passing {
+        let mut connector = HttpConnector::new();
+        connector.set_nodelay(true);
+        connector.set_connect_timeout(Some(CONNECTING));
+        // What a client doesn't say of the host, nobody says in its place.
+        let client = Client::builder().set_host(false).pool_idle_timeout(IDLE).build(connector);
+        Passing { follower, client, times: Times::default(), asking: Mutex::default() }
+    }
+
+    /// The answer of a gateway that acts, to a request that came at that moment.
+    /// Its bytes count by this share, beside those of the request.
+    pub async fn pass(&self, asked: &Asked, arrived: Instant, share: &Share) -> Result<Response<Bytes>, SqsError> {
+        let last = arrived + ASKING;
+        let wanted = last + LONGEST_TRY;
+        let mut is_again = false;
+        loop {
+            let acting = self.follower.acting();
+            if let Some(acting) = acting {
+                let tried = self.try_at(acting, asked, share, Wanted { until: wanted, is_again }).await;
+                match tried {
+                    Ok(response) => return Ok(as_answered(response, asked.is_head())),
+                    Err(Failed::NoRoom) => {
+                        return Err(SqsError::ServiceUnavailable("Too many requests are being served.".into()))
+                    }
+                    Err(why) => tracing::debug!(server = acting.server, "a request is to be asked again: {why}"),
+                }
+                is_again = true;
+                self.follower.look();
+            }
+            let again = if acting.is_some() { Instant::now() + PAUSE } else { last };
+            tokio::select! {
+                () = sleep_until(again.min(last)) => {}
+                () = self.follower.leaves(acting) => {}
+            }
+            if Instant::now() >= last {
+                return Err(SqsError::ServiceUnavailable("No gateway of the cluster has answered.".into()));
+            }
+        }
+    }
+
+    /// One try, which is given up where another gateway acts.
+    async fn try_at(
+        &self,
+        acting: Acting,
+        asked: &Asked,
+        share: &Share,
+        wanted: Wanted,
+    ) -> Result<Response<Bytes>, Failed> {
+        tokio::select! {
+            biased;
+            answered = self.ask(acting, asked, share, wanted) => answered,
+            () = self.follower.leaves(Some(acting)) => Err(Failed::Changed),
+        }
+    }
+
+    async fn ask(
+        &self,
+        acting: Acting,
+        asked: &Asked,
+        share: &Share,
+        Wanted { until, is_again }: Wanted,
+    ) -> Result<Response<Bytes>, Failed> {
+        let until = self.until(acting, until).await?;
+        let request = asked.at(acting.address, Some(Try { until, is_again })).ok_or(Failed::Unwritable)?;
+        let has_room = |bytes| share.try_set(asked.bytes() + bytes);
+        timeout(LONGEST_TRY, self.exchange(acting, request, has_room)).await.map_err(|_| Failed::Silent)?
+    }
+
+    /// The moment until which an answer is wanted, in the cluster's time. It is never later than meant.
+    async fn until(&self, acting: Acting, wanted: Instant) -> Result<u64, Failed> {
+        if self.times.of(acting.server, Instant::now()).is_none() {
+            self.ask_for_time(acting).await?;
+        }
+        let now = Instant::now();
+        let time = self.times.of(acting.server, now).ok_or(Failed::NoTime)?;
+        Ok(time.saturating_add(milliseconds(wanted.saturating_duration_since(now))))
+    }
+
+    /// Of many who want to know the time one asks.
+    async fn ask_for_time(&self, acting: Acting) -> Result<(), Failed> {
+        let _asking = self.asking.lock().await;
+        if self.times.of(acting.server, Instant::now()).is_none() {
+            let request = Asked::of_time().at(acting.address, None).ok_or(Failed::Unwritable)?;
+            timeout(TELLING, self.exchange(acting, request, |_| true)).await.map_err(|_| Failed::Silent)??;
+        }
+        Ok(())
+    }
+
+    /// Asks once, and learns the time of the answer. There has to be room for what was read of it.
+    async fn exchange(
+        &self,
+        acting: Acting,
+        request: Request<Body>,
+        has_room: impl Fn(usize) -> bool,
+    ) -> Result<Response<Bytes>, Failed> {
+        let response = self.client.request(request).await?;
+        if let Some(time) = time_of(&response) {
+            self.times.learn(acting.server, time, Instant::now());
+        }
+        let (head, mut body) = response.into_parts();
+        let mut whole = BytesMut::new();
+        while let Some(piece) = body.data().await {
+            whole.extend_from_slice(&piece?);
+            if whole.len() > LONGEST_ANSWER {
+                return Err(Failed::TooLong);
+            }
+            if !has_room(whole.len()) {
+                return Err(Failed::NoRoom);
+            }
+        }
+        Ok(Response::from_parts(head, whole.freeze()))
+    }
+}
+
+#[cfg(test)]
+mod tests;

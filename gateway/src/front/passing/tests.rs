@@ -1,0 +1,134 @@
+use std::sync::atomic::{AtomicUsize, Ordering};
+use std::sync::Arc;
+
+use hobbychair_cluster::acting::Acting;
+use hyper::header::HeaderValue;
+use tokio::io::{AsyncReadExt, AsyncWriteExt};
+use tokio::net::{TcpListener, TcpStream};
+use tokio::sync::mpsc::{unbounded_channel, UnboundedReceiver};
+
+use super::*;
+use crate::budget::Budget;
+
+fn share() -> Share {
+    Budget::new(1 << 20).share()
+}
+
+/// What a gateway of a test does with a request other than one of the time.
+#[derive(Clone, Copy)]
+enum Does {
+    Answers,
+    Breaks,
+    Nothing,
+}
+
+/// A gateway whose time is 1,000,000, and the heads of the requests that come to it, in small letters.
+async fn gateway(server: u32, does: &'static [Does]) -> (Acting, UnboundedReceiver<String>) {
+    let listener = TcpListener::bind("127.0.0.1:0").await.unwrap();
+    let address = listener.local_addr().unwrap();
+    let (tell, heads) = unbounded_channel();
+    let count = Arc::new(AtomicUsize::new(0));
+    tokio::spawn(async move {
+        while let Ok((stream, _)) = listener.accept().await {
+            let (tell, count) = (tell.clone(), count.clone());
+            tokio::spawn(async move {
+                let next = || does.get(count.fetch_add(1, Ordering::Relaxed)).copied().unwrap_or(Does::Answers);
+                let say = |head: &str| drop(tell.send(head.to_string()));
+                converse(stream, next, say).await
+            });
+        }
+    });
+    (Acting { server, address }, heads)
+}
+
+async fn converse(mut stream: TcpStream, next: impl Fn() -> Does, say: impl Fn(&str)) -> Option<()> {
+    let mut read = Vec::new();
+    loop {
+        while !read.windows(4).any(|bytes| bytes == b"\r\n\r\n") {
+            stream.read_buf(&mut read).await.ok().filter(|count| *count > 0)?;
+        }
+        let head = String::from_utf8(std::mem::take(&mut read)).unwrap().to_ascii_lowercase();
+        let (status, does) = if head.starts_with("get / ") { ("400 Bad", Does::Answers) } else { ("200 OK", next()) };
+        if status.starts_with("200") {
+            say(&head);
+        }
+        match does {
+            Does::Answers => {
+                let answer = format!("HTTP/1.1 {status}\r\nx-hobbychair-time: 1000000\r\ncontent-length: 2\r\n\r\nok");
+                stream.write_all(answer.as_bytes()).await.ok()?;
+            }
+            Does::Breaks => return None,
+            Does::Nothing => std::future::pending().await,
+        }
+    }
+}
+
+fn asked() -> Asked {
+    let request = Request::get("/1/q").header("host", "queues").body(()).unwrap();
+    Asked::of(request.into_parts().0, Bytes::new()).unwrap()
+}
+
+fn said<'h>(head: &'h str, name: &str) -> &'h str {
+    let line = head.lines().find_map(|line| line.strip_prefix(name)?.strip_prefix(": "));
+    line.unwrap_or_else(|| panic!("there is no {name} in {head}"))
+}
+
+#[tokio::test]
+async fn a_request_is_asked_again_as_the_same_call_with_the_same_end() {
+    let (acting, mut heads) = gateway(1, &[Does::Breaks, Does::Breaks]).await;
+    let (tell, follower) = Follower::for_tests();
+    tell.send_replace(Some(acting));
+    let passing = Passing::new(follower);
+    let answer = passing.pass(&asked(), Instant::now(), &share()).await.unwrap();
+    assert_eq!((answer.status().as_u16(), &answer.body()[..], answer.headers().len()), (200, &b"ok"[..], 0));
+    let tries = [heads.recv().await.unwrap(), heads.recv().await.unwrap(), heads.recv().await.unwrap()];
+    let again: Vec<bool> = tries.iter().map(|head| head.contains("x-hobbychair-again")).collect();
+    assert_eq!(again, [false, true, true]);
+    for head in &tries {
+        assert_eq!(said(head, "amz-sdk-invocation-id"), said(&tries[0], "amz-sdk-invocation-id"));
+        assert_eq!(said(head, "host"), "queues");
+        let until: u64 = said(head, "x-hobbychair-until").parse().unwrap();
+        assert!((1_040_000..=1_045_000).contains(&until), "{until}");
+    }
+}
+
+#[tokio::test]
+async fn where_another_gateway_acts_it_is_asked_at_once() {
+    let (first, mut heads) = gateway(1, &[Does::Nothing]).await;
+    let (second, mut others) = gateway(2, &[]).await;
+    let (tell, follower) = Follower::for_tests();
+    let passing = Arc::new(Passing::new(follower));
+    let passed = {
+        let passing = passing.clone();
+        tokio::spawn(async move { passing.pass(&asked(), Instant::now(), &share()).await })
+    };
+    tell.send_replace(Some(first));
+    let head = heads.recv().await.unwrap();
+    tell.send_replace(Some(second));
+    let answer = passed.await.unwrap().unwrap();
+    assert_eq!((answer.status().as_u16(), answer.headers().get("x-hobbychair-time")), (200, None::<&HeaderValue>));
+    let name = "amz-sdk-invocation-id";
+    assert_eq!(said(&head, name), said(&others.recv().await.unwrap(), name));
+}
+
+#[tokio::test(start_paused = true)]
+async fn where_nobody_acts_there_is_an_error_after_a_while() {
+    let (_tell, follower) = Follower::for_tests();
+    let passing = Passing::new(follower);
+    let arrived = Instant::now();
+    let refused = passing.pass(&asked(), arrived, &share()).await.unwrap_err();
+    assert!(matches!(refused, SqsError::ServiceUnavailable(_)));
+    assert_eq!(arrived.elapsed().as_secs(), ASKING.as_secs());
+}
+
+#[tokio::test]
+async fn an_answer_that_there_is_no_room_for_is_refused() {
+    let (acting, _heads) = gateway(1, &[]).await;
+    let (tell, follower) = Follower::for_tests();
+    tell.send_replace(Some(acting));
+    let passing = Passing::new(follower);
+    let (asked, full) = (asked(), Budget::of(0, 0).share());
+    let refused = passing.pass(&asked, Instant::now(), &full).await.unwrap_err();
+    assert!(matches!(&refused, SqsError::ServiceUnavailable(why) if why.contains("Too many")), "{refused:?}");
+    assert!(passing.pass(&asked, Instant::now(), &share()).await.is_ok());
+}

@@ -1,0 +1,137 @@
+//! What a node tells at the start of the gateway beside it: the time, and the store of the head.
+
+use std::os::unix::io::AsFd;
+
+use hobbychair_cluster::parts::{Cutter, Malformed, FRAME_LIMIT};
+use hobbychair_cluster::pipe::{FromGateway, FromNode};
+use thiserror::Error;
+use tokio::io::{AsyncReadExt, AsyncWriteExt};
+use tokio::net::UnixStream;
+use tokio::task::JoinHandle;
+
+use super::task::NodeStart;
+use super::told::Take;
+use crate::clock::Clock;
+use crate::cq::{Cq, CqError};
+use crate::queues::ImageError;
+
+const PIECE: usize = 256 * 1024;
+
+/// Why a node's store can't be worked with.
+#[derive(Debug, Error)]
+pub enum BesideNodeError {
+    #[error("standard input is no socket: hobbychair node starts this")]
+    NoSocket,
+    #[error(transparent)]
+    Cq(#[from] CqError),
+    #[error("the node and this gateway don't understand each other: {0}")]
+    Malformed(#[from] Malformed),
+    #[error("the store of the head: {0}")]
+    Image(#[from] ImageError),
+    #[error("the tables couldn't be made")]
+    Failed,
+}
+
+/// Takes up the store that the node at the other end of standard input tells. Gives the node, and what of its words was read and
+/// comes behind the store.
+pub async fn take_up(clock: &Clock, take: &mut Take<'_>) -> Result<(Cq, NodeStart), BesideNodeError> {
+    take_up_from(socket().map_err(|_| BesideNodeError::NoSocket)?, clock, take).await
+}
+
+fn socket() -> std::io::Result<UnixStream> {
+    let socket = std::os::unix::net::UnixStream::from(std::io::stdin().as_fd().try_clone_to_owned()?);
+    // Anything else has no such address.
+    socket.local_addr()?;
+    socket.set_nonblocking(true)?;
+    UnixStream::from_std(socket)
+}
+
+/// Waits for work that takes long, and tells the node meanwhile that this gateway works. Nothing was asked by then.
+pub async fn wait_for<T>(
+    work: JoinHandle<T>,
+    cq: &mut Cq,
+    node: &mut NodeStart,
+    clock: &Clock,
+) -> Result<T, BesideNodeError> {
+    let mut cutter = Cutter { buffer: std::mem::take(&mut node.incoming) };
+    tokio::pin!(work);
+    let done = loop {
+        tokio::select! {
+            done = &mut work => break done.map_err(|_| BesideNodeError::Failed)?,
+            told = next(cq, &mut cutter) => {
+                if let FromNode::Time { time, since_start } = told? {
+                    say_alive(cq, clock, time, since_start).await?;
+                }
+            }
+        }
+    };
+    node.incoming = cutter.buffer;
+    Ok(done)
+}
+
+async fn say_alive(cq: &mut Cq, clock: &Clock, time: u64, since_start: u64) -> Result<(), CqError> {
+    clock.follow(time, since_start);
+    let alive = FromGateway::Alive { time }.bytes();
+    cq.input.write_all(&alive).await.map_err(|_| CqError::NodeGone)
+}
+
+async fn take_up_from(
+    socket: UnixStream,
+    clock: &Clock,
+    take: &mut Take<'_>,
+) -> Result<(Cq, NodeStart), BesideNodeError> {
+    let (mut cq, mut cutter) = (Cq::of_node(socket), Cutter::default());
+    loop {
+        match next(&mut cq, &mut cutter).await? {
+            FromNode::Time { time, since_start } => say_alive(&mut cq, clock, time, since_start).await?,
+            FromNode::Chunk { chunk } => take(&chunk)?,
+            FromNode::Stored { server } => return Ok((cq, NodeStart { server, incoming: cutter.buffer })),
+            // They are about what an earlier gateway asked.
+            FromNode::Answer { .. } | FromNode::Acts | FromNode::Refused { .. } => {}
+        }
+    }
+}
+
+async fn next(cq: &mut Cq, cutter: &mut Cutter) -> Result<FromNode, BesideNodeError> {
+    loop {
+        if let Some(frame) = cutter.next(FRAME_LIMIT)? {
+            return Ok(FromNode::read(frame)?);
+        }
+        cutter.buffer.reserve(PIECE);
+        match cq.output.read_buf(&mut cutter.buffer).await {
+            Ok(0) | Err(_) => return Err(CqError::NodeGone.into()),
+            Ok(_) => {}
+        }
+    }
+}
+
+#[cfg(test)]
+mod tests {
+    use super::*;
+
+    use std::time::Duration;
+
+    use hobbychair_cluster::parts::Frames;
+
+    #[tokio::test]
+    async fn the_node_is_told_that_the_gateway_works_while_its_tables_are_made() {
+        let (gateway, node) = UnixStream::pair().unwrap();
+        let (clock, mut start) = (Clock::new(), NodeStart { server: 1, incoming: Default::default() });
+        let (reading, mut writing) = node.into_split();
+        let mut reading = Frames::new(reading, FRAME_LIMIT);
+        let (done, is_done) = std::sync::mpsc::channel::<()>();
+        let work = tokio::task::spawn_blocking(move || is_done.recv().is_ok());
+        let node = async {
+            for time in [7, 8] {
+                writing.write_all(&FromNode::Time { time, since_start: 0 }.bytes()).await.unwrap();
+                writing.write_all(&FromNode::Acts.bytes()).await.unwrap();
+                let heard = tokio::time::timeout(Duration::from_secs(10), reading.next()).await.unwrap().unwrap();
+                assert_eq!(FromGateway::read(heard), Ok(FromGateway::Alive { time }));
+            }
+            done.send(()).unwrap();
+        };
+        let mut cq = Cq::of_node(gateway);
+        let (made, ()) = tokio::join!(wait_for(work, &mut cq, &mut start, &clock), node);
+        assert!(made.unwrap());
+    }
+}

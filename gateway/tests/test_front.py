@@ -1,0 +1,252 @@
+"""A front: what it passes on, and where it asks again. What acts is played by the test."""
+
+from __future__ import annotations
+
+import http.client
+import itertools
+import json
+import signal
+import socket
+import threading
+import time
+from http.server import BaseHTTPRequestHandler, ThreadingHTTPServer
+
+import pytest
+
+import started
+from clusters import Etcd, has_etcd, run, wait
+from started import Started
+
+pytestmark = pytest.mark.skipif(not has_etcd(), reason="etcd isn't there: Debian's etcd-server has it")
+
+
+class Handler(BaseHTTPRequestHandler):
+    protocol_version = "HTTP/1.1"
+
+    def setup(self) -> None:
+        super().setup()
+        self.server.connections.append(self.connection)
+
+    def do_GET(self) -> None:
+        self.server.heard.append((self.command, self.path, dict(self.headers), self.rfile.read(int(self.headers.get("Content-Length", 0)))))
+        if self.path != "/" and not self.server.answers.wait(30):
+            return
+        self.send_response(200 if self.path != "/" else 400)
+        self.send_header("X-Hobbychair-Time", str(self.server.time + int(1000 * (time.monotonic() - self.server.begun))))
+        self.send_header("Keep-Alive", "timeout=5")
+        self.send_header("X-Amzn-RequestId", "r")
+        body = self.server.name.encode() * self.server.repeated
+        self.send_header("Content-Length", str(len(body)))
+        self.end_headers()
+        self.wfile.write(body)
+
+    do_POST = do_GET
+
+    def log_message(self, *words) -> None:
+        pass
+
+
+class Acting(ThreadingHTTPServer):
+    """Stands in for a gateway that acts."""
+
+    daemon_threads = True
+    request_queue_size = 256
+
+    def __init__(self, name: str, port: int = 0) -> None:
+        super().__init__(("127.0.0.1", port), Handler)
+        self.name, self.heard, self.answers, self.connections = name, [], threading.Event(), []
+        self.time, self.begun, self.repeated = 1_000_000, time.monotonic(), 1
+        self.answers.set()
+        threading.Thread(target=self.serve_forever, daemon=True).start()
+
+    def end(self) -> None:
+        """As if it were killed."""
+        self.shutdown()
+        self.server_close()
+        for connection in self.connections:
+            try:
+                connection.shutdown(socket.SHUT_RDWR)
+            except OSError:
+                pass
+
+    @property
+    def port(self) -> int:
+        return self.server_address[1]
+
+    def asked(self) -> list[tuple[str, str, dict[str, str], bytes]]:
+        """What it was asked, beside the time."""
+        return [one for one in self.heard if one[1] != "/"]
+
+
+class World:
+    """A cluster of which only etcd is there, and its front."""
+
+    names = (f"front-{number}" for number in itertools.count())
+
+    def __init__(self, etcd: Etcd) -> None:
+        self.etcd, name = etcd, next(self.names)
+        made = run("cluster", "create", "--cluster", name, "--etcd", etcd.urls[0], "--nodes", "2")
+        assert made.returncode == 0, made.stderr
+        key = f"hobbychair/{name}/cluster"
+        self.root = f"hobbychair/{name}/{json.loads(etcd.read(key)[key])['incarnation']}"
+        self.gateways = [Acting("one"), Acting("two")]
+        for server, gateway in enumerate(self.gateways, 1):
+            self.register(server, gateway.port)
+        self.front = Started("--cluster", name, "--etcd", etcd.urls[0])
+
+    def register(self, server: int, port: int | None) -> None:
+        value = {"nonce": "n", "address": "127.0.0.1:1"} | ({"gateway": f"127.0.0.1:{port}"} if port else {})
+        self.etcd.write(f"{self.root}/node/{server:010}", json.dumps(value))
+
+    def head(self, *members: int) -> None:
+        chain = {"line": 1, "members": members, "joiner": None, "is_ready": True, "full": members, "used": [1, 2]}
+        self.etcd.write(f"{self.root}/master/chain", json.dumps(chain))
+
+    def ask(self, path: str = "/0/q", method: str = "POST", body: bytes = b"body", timeout: float = 30,
+            **headers: str) -> tuple[int, http.client.HTTPMessage, bytes]:
+        connection = http.client.HTTPConnection(self.front.url.removeprefix("http://"), timeout=timeout)
+        try:
+            connection.request(method, path, body, {name.replace("_", "-"): value for name, value in headers.items()})
+            answer = connection.getresponse()
+            return answer.status, answer.headers, answer.read()
+        finally:
+            connection.close()
+
+    def end(self) -> None:
+        self.front.kill()
+        for gateway in self.gateways:
+            gateway.end()
+
+
+@pytest.fixture(scope="module")
+def etcd(tmp_path_factory):
+    one = Etcd(tmp_path_factory.mktemp("etcd"))
+    yield one
+    one.end()
+
+
+@pytest.fixture
+def world(etcd):
+    one = World(etcd)
+    yield one
+    one.end()
+
+
+def test_a_request_goes_to_the_gateway_of_the_head_as_it_is(world):
+    status, headers, body = world.ask("/0/q?A=%2f", Host="queues:80", X_Amz_Target="t", Connection="X-Private", X_Private="p",
+                                      X_Hobbychair_Until="5")
+    assert (status, body) == (200, b"one")
+    assert headers["X-Amzn-RequestId"] == "r" and headers["X-Hobbychair-Time"] is None and headers["Keep-Alive"] is None
+    [(method, path, heard, sent)] = world.gateways[0].asked()
+    assert (method, path, sent, heard["host"], heard["x-amz-target"]) == ("POST", "/0/q?A=%2f", b"body", "queues:80", "t")
+    assert "x-private" not in heard and len(heard["amz-sdk-invocation-id"]) == 36
+    now = 1_000_000 + 1000 * (time.monotonic() - world.gateways[0].begun)
+    assert now + 40_000 < int(heard["x-hobbychair-until"]) <= now + 45_000
+    world.ask(Amz_Sdk_Invocation_Id="call")
+    assert world.gateways[0].asked()[1][2]["amz-sdk-invocation-id"] == "call"
+    # The time was asked for once.
+    assert len(world.gateways[0].heard) == 3
+
+
+def test_a_large_answer_comes_whole(world):
+    world.gateways[0].repeated = 1_000_000
+    assert world.ask(body=b"x" * 1_000_000)[2] == b"one" * 1_000_000
+    assert len(world.gateways[0].asked()[0][3]) == 1_000_000
+
+
+def test_where_the_head_changes_a_request_is_asked_at_the_next_one(world):
+    world.gateways[0].answers.clear()
+    answers = []
+    thread = threading.Thread(target=lambda: answers.append(world.ask()))
+    thread.start()
+    wait(5, lambda: len(world.gateways[0].asked()) == 1, "nobody is asked")
+    world.head(2)
+    thread.join(5)
+    assert answers[0][2] == b"two"
+    [first], [second] = (gateway.asked() for gateway in world.gateways)
+    assert first[2]["amz-sdk-invocation-id"] == second[2]["amz-sdk-invocation-id"]
+    assert world.ask()[2] == b"two"
+
+
+def test_a_gateway_that_is_away_is_asked_once_it_is_there(world):
+    port = world.gateways[0].port
+    assert world.ask()[2] == b"one"
+    world.gateways[0].end()
+    answers = []
+    thread = threading.Thread(target=lambda: answers.append(world.ask()))
+    thread.start()
+    time.sleep(1)
+    world.gateways[0] = Acting("again", port)
+    thread.join(5)
+    assert answers[0][2] == b"again"
+
+
+def test_without_etcd_requests_go_where_they_went(world):
+    assert world.ask()[2] == b"one"
+    world.etcd.signal(signal.SIGSTOP)
+    try:
+        time.sleep(1.5)
+        assert world.ask()[2] == b"one"
+    finally:
+        world.etcd.signal(signal.SIGCONT)
+
+
+def test_a_client_that_goes_leaves_nobody_asking(world):
+    world.gateways[0].answers.clear()
+    with pytest.raises(TimeoutError):
+        world.ask(timeout=0.5)
+    time.sleep(2)
+    world.gateways[0].answers.set()
+    assert world.ask()[0] == 200
+    assert len(world.gateways[0].asked()) == 2
+
+
+def test_where_nobody_acts_there_is_an_error_of_sqs(world):
+    world.register(2, None)
+    world.head(2)
+    time.sleep(1)
+    begun = time.monotonic()
+    answers = {}
+    threads = [threading.Thread(target=lambda target=target: answers.update({target: world.ask("/", body=b"{}", **({"X_Amz_Target": target} if target else {}))}))
+               for target in ("", "AmazonSQS.ListQueues")]
+    for thread in threads:
+        thread.start()
+    for thread in threads:
+        thread.join(30)
+    assert 19 < time.monotonic() - begun < 22
+    assert all(status == 503 and headers["X-Amzn-RequestId"] for status, headers, _ in answers.values())
+    assert b"<Code>ServiceUnavailable</Code>" in answers[""][2]
+    assert json.loads(answers["AmazonSQS.ListQueues"][2])["__type"].endswith("#ServiceUnavailable")
+
+
+def test_what_a_front_cannot_be_told(etcd):
+    which = ["--cluster", "told", "--etcd", etcd.urls[0]]
+    refused = started.run("serve", *which, "--port", "0")
+    assert refused.returncode == 1 and "there is no cluster told" in refused.stderr
+    run("cluster", "create", *which, "--nodes", "1")
+    for words, status, why in [
+        (["--host", "0.0.0.0"], 2, "without --credentials only this machine is served"),
+        (["--journal", "j"], 2, "journal is nothing that a front is told"),
+        (["--port", etcd.urls[0].rsplit(":", 1)[1]], 1, "can't listen on"),
+    ]:
+        refused = started.run("serve", *which, *words)
+        assert (refused.returncode, why in refused.stderr) == (status, True), refused.stderr
+    refused = started.run("serve", "--cluster", "told")
+    assert refused.returncode == 2 and "are given together" in refused.stderr
+    refused = started.run("serve", "--port", "0", "--cluster", "told", "--etcd", "http://10.0.0.1:1")
+    assert "isn't on this machine" in refused.stderr
+
+
+def test_a_front_ends_in_good_order(world):
+    world.gateways[0].answers.clear()
+    answers = []
+    thread = threading.Thread(target=lambda: answers.append(world.ask()))
+    thread.start()
+    wait(5, lambda: len(world.gateways[0].asked()) == 1, "nobody is asked")
+    world.front.process.terminate()
+    time.sleep(0.5)
+    with pytest.raises(OSError):
+        socket.create_connection(("127.0.0.1", int(world.front.url.rsplit(":", 1)[1])))
+    world.gateways[0].answers.set()
+    thread.join(5)
+    assert answers[0][0] == 200 and world.front.process.wait(5) == 0
