@@ -83,7 +83,7 @@ def test_bytes_that_are_no_greeting_end_the_connection(running):
             one.sendall(data)
             one.shutdown(socket.SHUT_WR)
             assert ends(one), data
-    assert "a connection ends from=127.0.0.1" in cluster.node(1).log.read_text()
+    cluster.node(1).logs("a connection ends from=127.0.0.1")
 
 
 def test_random_bytes_take_no_memory(running):
@@ -116,7 +116,7 @@ def test_links_of_others_are_turned_away(running):
     with connect(cluster) as one:
         one.sendall(other)
         assert read(one)[0] == AWAY
-    assert "it is turned away" in cluster.node(1).log.read_text()
+    cluster.node(1).logs("it is turned away")
 
 
 def test_a_connection_that_says_nothing_ends_and_too_many_are_turned_away(running):
@@ -133,7 +133,7 @@ def test_a_connection_that_says_nothing_ends_and_too_many_are_turned_away(runnin
     assert time.monotonic() - begun < 8
     for one in held:
         one.close()
-    assert "gave way to others" in cluster.node(1).log.read_text()
+    cluster.node(1).logs("gave way to others")
     wait(10, lambda: len(users.records) > answers + 20, "users aren't answered")
 
 
