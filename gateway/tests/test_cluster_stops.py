@@ -7,7 +7,7 @@ import time
 
 import pytest
 
-from clusters import has_etcd, wait
+from clusters import Cluster, has_etcd, wait
 from test_cluster import answered, start  # noqa: F401
 
 pytestmark = pytest.mark.skipif(not has_etcd(), reason="etcd isn't there: Debian's etcd-server has it")
@@ -80,3 +80,46 @@ def test_who_does_not_reach_etcd_hears_of_a_loss_by_a_link_ahead_of_what_follows
         proxy.mend()
     wait(10, cluster.settles([1, 3]), "the chain doesn't go on")
     answered(users)
+
+
+def test_a_node_that_is_told_to_end_is_let_go_first(start):
+    cluster, users = start()
+    node = cluster.node(1)
+    node.process.terminate()
+    wait(8, lambda: not node.lives(), "it isn't let go")
+    assert node.process.returncode == 0
+    node.logs("the master's log says that it is lost")
+    wait(10, cluster.settles([2, 3]), "the chain doesn't go on")
+    answered(users)
+
+
+def test_the_only_full_server_is_not_let_go(tmp_path):
+    cluster = Cluster(tmp_path, size=1, masters=1)
+    try:
+        node = cluster.node(1)
+        node.process.terminate()
+        node.logs("the master is asked to do without it")
+        # The master undoes the wish.
+        wait(10, lambda: "isn't given up" in (tmp_path / "master1.log").read_text(), "the master says nothing")
+        assert node.lives() and cluster.detected() == []
+        node.process.terminate()
+        wait(8, lambda: not node.lives(), "it doesn't end")
+        assert node.process.returncode == 1
+        node.logs("the chain hasn't let go of it")
+    finally:
+        cluster.end()
+
+
+def test_a_node_without_a_place_ends_at_once(tmp_path):
+    cluster = Cluster(tmp_path, size=1, masters=0)
+    try:
+        cluster.start_node()
+        node = cluster.nodes[1]
+        wait(10, node.look, "it doesn't begin")
+        wait(10, lambda: cluster.etcd.read(f"{cluster.root}/beat/{2:010}"), "it doesn't beat")
+        node.process.terminate()
+        wait(8, lambda: not node.lives(), "it doesn't end")
+        assert node.process.returncode == 0
+        node.logs("has no place in the chain")
+    finally:
+        cluster.end()

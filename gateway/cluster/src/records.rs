@@ -38,6 +38,13 @@ pub struct Chain {
     pub used: Vec<u32>,
 }
 
+impl Chain {
+    /// Whether that server is a member, or the one that joins.
+    pub fn has_place(&self, server: u32) -> bool {
+        self.members.contains(&server) || self.joiner == Some(server)
+    }
+}
+
 /// A line of the master's log.
 #[derive(Clone, Debug, PartialEq, Eq, Serialize, Deserialize)]
 #[serde(rename_all = "snake_case")]

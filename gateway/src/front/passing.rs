@@ -9,7 +9,7 @@ use bytes::{Bytes, BytesMut};
 use hobbychair_cluster::acting::{Acting, Follower};
 use hyper::body::HttpBody;
 use hyper::client::HttpConnector;
-use hyper::{Body, Client, Request, Response};
+use hyper::{Body, Client, Request, Response, StatusCode};
 use thiserror::Error;
 use tokio::sync::Mutex;
 use tokio::time::{sleep_until, timeout, Instant};
@@ -173,8 +173,11 @@ impl Passing {
         has_room: impl Fn(usize) -> bool,
     ) -> Result<Response<Bytes>, Failed> {
         let response = self.client.request(request).await?;
-        if let Some(time) = time_of(&response) {
-            self.times.learn(acting.server, time, Instant::now());
+        match time_of(&response) {
+            Some(time) => self.times.learn(acting.server, time, Instant::now()),
+            // Its store is gone, so that it knows of no time any more.
+            None if response.status() == StatusCode::SERVICE_UNAVAILABLE => return Err(Failed::NoTime),
+            None => {}
         }
         let (head, mut body) = response.into_parts();
         let mut whole = BytesMut::new();

@@ -147,6 +147,14 @@ impl Service {
         Arc::new(Connection { service: self, peer, progress, share, host: KnownHost::default() })
     }
 
+    /// Tells a front the chain's time. Where the store is gone it is told none: it asks the next gateway.
+    fn tell_time(&self, response: &mut Response<Bytes>) {
+        let store = self.actions.store();
+        if store.is_of_chain() && !store.is_gone() {
+            response.headers_mut().insert(&TIME, store.clock().now().into());
+        }
+    }
+
     fn identify(
         &self,
         head: &Parts,
@@ -249,7 +257,9 @@ impl Connection {
         let _ = bodies::read(body, &self.share, arrival.deadline).await;
         let error = SqsError::ServiceUnavailable("Too many connections are open.".into());
         self.service.metrics.answered(None, StatusCode::SERVICE_UNAVAILABLE.as_u16(), arrival.began.elapsed());
-        refused(protocol_of(&head.headers), &error, Uuid::new_v4(), true)
+        let mut response = refused(protocol_of(&head.headers), &error, Uuid::new_v4(), true);
+        self.service.tell_time(&mut response);
+        response
     }
 
     fn log(&self, log: &AccessLog, status: StatusCode) {
@@ -279,10 +289,7 @@ impl Admitted {
             Next::Perform(call, repeatable) => response(call.answer(repeatable).await),
             Next::Answered(response) => *response,
         };
-        let store = self.connection.service.actions.store();
-        if store.is_of_chain() {
-            response.headers_mut().insert(&TIME, store.clock().now().into());
-        }
+        self.connection.service.tell_time(&mut response);
         self.connection.log(&self.log, response.status());
         response
     }

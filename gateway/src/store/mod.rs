@@ -199,6 +199,11 @@ impl Store {
         self.is_of_chain
     }
 
+    /// Whether a task has ended: nothing that is asked of it is answered any more.
+    pub fn is_gone(&self) -> bool {
+        self.jobs.iter().any(mpsc::UnboundedSender::is_closed)
+    }
+
     /// Whether the bound of memory is full.
     pub fn is_memory_full(&self) -> bool {
         self.admission.memory.is_full(self.admission.bytes_in_use())

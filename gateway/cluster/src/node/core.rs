@@ -41,6 +41,9 @@ const STUCK: Duration = Duration::from_secs(5);
 /// Between two ticks of a process that wasn't stopped.
 const STOPPED: Duration = Duration::from_millis(1500);
 
+/// A node that is told to end waits so long for the log to say that it is lost.
+const LEAVING: Duration = Duration::from_secs(10);
+
 /// So many frames of a snapshot are on their way before the next piece is asked for.
 const MOST_PIECES: usize = 16;
 
@@ -111,6 +114,8 @@ pub struct Core {
     /// When the server told something last.
     told: Instant,
     is_stuck: bool,
+    /// Since when it is to end.
+    leaving: Option<Instant>,
     ticked: Instant,
     /// When clients were told where the server stands.
     said: Instant,
@@ -143,6 +148,7 @@ impl Core {
             trace: trace.map(Trace::begin).transpose()?,
             told: Instant::now(),
             is_stuck: false,
+            leaving: None,
             ticked: Instant::now(),
             said: Instant::now(),
             end: None,
@@ -191,12 +197,29 @@ impl Core {
             Event::Asked { client, stream, work, done } => self.streams.ask(client, stream, work, done),
             Event::Left { client } => self.streams.leave(client),
             Event::Gateway(happening) => self.gateway.happen(happening, &mut self.streams),
+            Event::Leave => self.leave(),
             Event::Tick => self.tick(),
         }
     }
 
     fn fail(&mut self, why: String) {
         self.end = Some(End::Fault(why));
+    }
+
+    /// The node is told to end. Where its server has a place in the chain, the master is asked to do without it first, so
+    /// that the others go on at once. All goes on here until the log says that it is lost.
+    fn leave(&mut self) {
+        let has_place = self.chain.as_ref().map_or(true, |chain| chain.has_place(self.node.id));
+        if !has_place {
+            self.end = Some(End::Left);
+        } else if self.leaving.is_some() {
+            self.fail("it was told to twice, and the chain hasn't let go of it".into());
+        } else {
+            tracing::info!("this node is told to end: the master is asked to do without it");
+            self.leaving = Some(Instant::now());
+            self.report();
+            self.node.look.notify_one();
+        }
     }
 
     // ---- the server
@@ -515,7 +538,7 @@ impl Core {
             return;
         }
         let id = self.node.id;
-        let has_place = chain.members.contains(&id) || chain.joiner == Some(id);
+        let has_place = chain.has_place(id);
         if chain.used.contains(&id) && !has_place {
             self.end = Some(End::Dropped);
             return;
@@ -571,6 +594,10 @@ impl Core {
             lock(&self.node.clock).lead(clock::wall(), clock::since_start());
         }
         self.look_at_server();
+        if self.leaving.is_some_and(|since| since.elapsed() > LEAVING) {
+            let seconds = LEAVING.as_secs();
+            return self.fail(format!("it was told to, and the chain hasn't let go of it within {seconds} s"));
+        }
         self.tell_clients();
         self.gateway.tick(&self.node.time_for_gateway(), &mut self.streams);
         self.report();
@@ -597,11 +624,12 @@ impl Core {
     fn report(&self) {
         let hears =
             |(server, peer): (&u32, &Peer)| peer.heard.is_some_and(|heard| heard.elapsed() < HEARD).then_some(*server);
+        let leaves = self.leaving.map(|_| "its node is told to end");
         *lock(&self.node.report) = Report {
             standing: self.standing,
             hears: self.peers.iter().filter_map(hears).collect(),
             clients: self.streams.len(),
-            is_stuck: self.is_stuck,
+            condemned: self.is_stuck.then_some("its process doesn't answer").or(leaves),
             gateway: self.gateway.phase(),
         };
     }

@@ -36,6 +36,8 @@ struct Membership {
     /// The number of the last beat.
     beat: u64,
     beaten: Option<Instant>,
+    /// Whether the last look asked the master to do without this server.
+    is_condemned: bool,
     /// The number of the next message of the master.
     next_order: u64,
     /// How many lines the log had.
@@ -49,8 +51,17 @@ pub async fn keep(node: Arc<Shared>, joins: bool) {
     let keys = node.cluster.keys.clone();
     tokio::spawn(node.cluster.etcd.clone().watch(keys.master(), node.look.clone()));
     let look = node.look.clone();
-    let mut membership =
-        Membership { node, joins, beat: 0, beaten: None, next_order: 1, line: 0, chain: None, in_contact: true };
+    let mut membership = Membership {
+        node,
+        joins,
+        beat: 0,
+        beaten: None,
+        is_condemned: false,
+        next_order: 1,
+        line: 0,
+        chain: None,
+        in_contact: true,
+    };
     loop {
         match membership.look().await {
             Ok(is_more) => {
@@ -139,12 +150,14 @@ impl Membership {
         let keys = &self.node.cluster.keys;
         let mut writes = Vec::new();
         let report = lock(&self.node.report).clone();
-        if self.beaten.map_or(true, |beaten| beaten.elapsed() + EARLY >= BEAT) {
+        let is_news = report.condemned.is_some() && !self.is_condemned;
+        self.is_condemned = report.condemned.is_some();
+        if is_news || self.beaten.map_or(true, |beaten| beaten.elapsed() + EARLY >= BEAT) {
             self.beaten = Some(Instant::now());
             self.beat += 1;
             writes.push(Operation::Put(keys.beat(self.node.id), records::text(&self.next_beat(&report))));
-            if report.is_stuck {
-                writes.push(Operation::Put(keys.condemned(self.node.id), "its process doesn't answer".into()));
+            if let Some(why) = report.condemned {
+                writes.push(Operation::Put(keys.condemned(self.node.id), why.into()));
             }
         }
         let waiting: Vec<(u64, Bytes)> = lock(&self.node.letters).iter().take(MOST_LETTERS).cloned().collect();

@@ -17,6 +17,7 @@ use std::sync::{Arc, Mutex};
 use anyhow::{bail, Context, Result};
 use bytes::Bytes;
 use tokio::net::TcpListener;
+use tokio::signal::unix::{signal, Signal, SignalKind};
 use tokio::sync::mpsc::{unbounded_channel, UnboundedSender};
 use tokio::sync::{oneshot, Notify, Semaphore};
 
@@ -60,7 +61,9 @@ pub enum End {
     Detected,
     /// By the log: the chain let go of it while it joined.
     Dropped,
-    /// By a fault of its own.
+    /// By whoever runs it, before it had a place in the chain.
+    Left,
+    /// By a fault of its own, or by whoever runs it, though the log doesn't say that it is lost.
     Fault(String),
 }
 
@@ -69,6 +72,7 @@ impl fmt::Display for End {
         match self {
             End::Detected => out.write_str("the master's log says that it is lost"),
             End::Dropped => out.write_str("the master's log says that the chain let go of it while it joined"),
+            End::Left => out.write_str("it was told to, and has no place in the chain"),
             End::Fault(why) => out.write_str(why),
         }
     }
@@ -96,6 +100,8 @@ pub enum Event {
     Left { client: u64 },
     /// Something about the gateway beside this node.
     Gateway(gateway::Happening),
+    /// A signal: somebody ends this node.
+    Leave,
     /// Some time has passed.
     Tick,
 }
@@ -106,8 +112,8 @@ pub struct Report {
     pub standing: Standing,
     pub hears: Vec<u32>,
     pub clients: usize,
-    /// The server answers nothing.
-    pub is_stuck: bool,
+    /// Why the master is asked to do without this server.
+    pub condemned: Option<&'static str>,
     pub gateway: Option<GatewayPhase>,
 }
 
@@ -200,6 +206,9 @@ pub async fn run(cluster: Cluster, settings: Settings) -> Result<End> {
     say(&format!("server {id} listens on {address}"));
     tracing::info!(server = id, %address, child = child.id(), "a node begins");
     let core = Core::new(node.clone(), child, settings.gateway, settings.trace.as_deref())?;
+    for kind in [SignalKind::terminate(), SignalKind::interrupt()] {
+        tokio::spawn(hear_signals(signal(kind)?, node.clone()));
+    }
     tokio::spawn(connections::accept(listener, node.clone()));
     tokio::spawn(membership::keep(node.clone(), settings.beginning == Beginning::Join));
     tokio::spawn(tick(node));
@@ -268,6 +277,12 @@ async fn put_registration(
     // An earlier answer may have been lost on its way.
     let is_own = || outcome.read.iter().flatten().any(|found| found.value == records::text(registration));
     Ok(outcome.succeeded || is_own())
+}
+
+async fn hear_signals(mut signals: Signal, node: Arc<Shared>) {
+    while signals.recv().await.is_some() {
+        node.tell(Event::Leave);
+    }
 }
 
 async fn tick(node: Arc<Shared>) {

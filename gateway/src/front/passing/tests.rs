@@ -18,6 +18,8 @@ fn share() -> Share {
 #[derive(Clone, Copy)]
 enum Does {
     Answers,
+    /// Its store is gone.
+    Ends,
     Breaks,
     Nothing,
 }
@@ -57,6 +59,10 @@ async fn converse(mut stream: TcpStream, next: impl Fn() -> Does, say: impl Fn(&
                 let answer = format!("HTTP/1.1 {status}\r\nx-hobbychair-time: 1000000\r\ncontent-length: 2\r\n\r\nok");
                 stream.write_all(answer.as_bytes()).await.ok()?;
             }
+            Does::Ends => {
+                let answer = "HTTP/1.1 503 Service Unavailable\r\ncontent-length: 2\r\n\r\nno";
+                stream.write_all(answer.as_bytes()).await.ok()?;
+            }
             Does::Breaks => return None,
             Does::Nothing => std::future::pending().await,
         }
@@ -75,7 +81,7 @@ fn said<'h>(head: &'h str, name: &str) -> &'h str {
 
 #[tokio::test]
 async fn a_request_is_asked_again_as_the_same_call_with_the_same_end() {
-    let (acting, mut heads) = gateway(1, &[Does::Breaks, Does::Breaks]).await;
+    let (acting, mut heads) = gateway(1, &[Does::Breaks, Does::Ends]).await;
     let (tell, follower) = Follower::for_tests();
     tell.send_replace(Some(acting));
     let passing = Passing::new(follower);
