@@ -7,6 +7,7 @@ use std::time::Duration;
 
 use anyhow::Result;
 use clap::ValueEnum;
+use hobbychair_cluster::memory;
 use serde::Deserialize;
 use thiserror::Error;
 
@@ -161,17 +162,11 @@ pub struct LogSettings {
 #[serde(try_from = "NumberOrText")]
 pub struct Size(pub u64);
 
-const UNITS: [(&str, u32); 4] = [("KiB", 10), ("MiB", 20), ("GiB", 30), ("TiB", 40)];
-
 impl FromStr for Size {
     type Err = String;
 
     fn from_str(text: &str) -> Result<Size, String> {
-        let unit = UNITS.iter().find(|(unit, _)| text.ends_with(unit));
-        let (digits, shift) = unit.map_or((text, 0), |(unit, shift)| (&text[..text.len() - unit.len()], *shift));
-        let number = digits.trim_end().parse::<u64>().ok();
-        let bytes = number.and_then(|number| number.checked_mul(1 << shift)).filter(|bytes| *bytes > 0);
-        bytes.map(Size).ok_or_else(|| format!("{text} is no size, as 1048576, 512MiB or 2GiB"))
+        text.parse::<memory::Size>().map(|size| Size(size.0))
     }
 }
 
@@ -543,16 +538,6 @@ mod tests {
 
     fn settings(options: Options) -> Result<Settings> {
         options.settings(|named| Ok(named.unwrap_or_else(|| "cq".into())))
-    }
-
-    #[test]
-    fn sizes() {
-        for (text, bytes) in [("1", 1), ("1048576", 1 << 20), ("512MiB", 512 << 20), ("2 GiB", 2 << 30)] {
-            assert_eq!(text.parse(), Ok(Size(bytes)), "{text}");
-        }
-        for bad in ["", "0", "MiB", "1MB", "-1", "1.5GiB", "99999999999TiB", "0KiB"] {
-            assert!(bad.parse::<Size>().is_err(), "{bad}");
-        }
     }
 
     #[test]

@@ -242,8 +242,10 @@ class Cluster:
 
     def __init__(self, room: Path, size: int = 3, members: int = 1, masters: int = 2, absent: tuple[int, ...] = (),
                  programs: Callable[[str], str] = lambda name: program(), breakable: bool = False,
-                 gateways: bool = False) -> None:
+                 gateways: bool = False, words: Callable[[int], list[str]] = lambda number: []) -> None:
+        """`words` are those that the node that is started as that one gets, beside the usual ones."""
         self.between: list[Proxy] = []
+        self.words = words
         self.room, self.size, self.programs, self.gateways = room, size, programs, gateways
         self.etcd = Etcd(room, members)
         made = run("cluster", "create", "--cluster", NAME, "--etcd", ",".join(self.etcd.urls), "--nodes", str(size))
@@ -283,6 +285,7 @@ class Cluster:
         [port] = free_ports(1)
         if self.gateways:
             how += ["--gateway", f"127.0.0.1:{port}"]
+        how += self.words(len(self.nodes) + 1)
         process, log = self._start(name, "node", "--cluster", NAME, "--etcd", urls, "--listen", "127.0.0.1:0",
                                    "--trace", str(trace), *how)
         node = Node(process, log, trace, proxy)

@@ -31,8 +31,8 @@ TIMEOUT = 6
 class Served:
     """A cluster with a front, and a client of that."""
 
-    def __init__(self, room: Path, size: int = 3) -> None:
-        self.cluster = Cluster(room, size=size, gateways=True)
+    def __init__(self, room: Path, size: int = 3, **how: Any) -> None:
+        self.cluster = Cluster(room, size=size, gateways=True, **how)
         try:
             wait(30, lambda: self.cluster.gateway_acts(1), "no gateway acts")
             self.front = Started("--cluster", NAME, "--etcd", self.cluster.etcd.urls[0])
@@ -130,6 +130,36 @@ def test_a_body_of_600_kilobytes(served):
         [got] = served.receive(queue, WaitTimeSeconds=2)
         assert got["Body"] == body
         served.delete(queue, got)
+
+
+def test_sends_are_refused_by_what_the_smallest_server_may_use(tmp_path):
+    served = Served(tmp_path, size=2, words=lambda number: ["--memory", "1GiB" if number == 1 else "6MiB"])
+    try:
+        queue, body = served.queue("q"), "x" * 200_000
+        assert fill(served, queue, body) in range(20, 32)
+        with pytest.raises(served.sqs.exceptions.ClientError, match="OverLimit"):
+            served.queue("another")
+        # What frees memory goes on, and then there is room again.
+        for message in served.receive(queue):
+            served.delete(queue, message)
+        assert fill(served, queue, body) > 2
+        served.cluster.kill(2)
+        wait(10, served.cluster.settles([1]), "it isn't detected")
+        wait(10, lambda: fill(served, queue, body, most=5) == 5, "sends are refused still")
+    finally:
+        print(served.cluster.said())
+        served.end()
+
+
+def fill(served: Served, queue: str, body: str, most: int = 100) -> int:
+    """Sends until a send is refused, and tells how many were taken."""
+    for count in range(most):
+        try:
+            served.sqs.send_message(QueueUrl=queue, MessageBody=body)
+        except served.sqs.exceptions.ClientError as error:
+            assert error.response["Error"]["Code"] == "OverLimit", error
+            return count
+    return most
 
 
 # ---- faults

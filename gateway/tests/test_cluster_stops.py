@@ -67,6 +67,28 @@ def test_links_break_again_and_again(start):
     assert logs.count("a link is up") > 40
 
 
+def test_of_a_link_that_carries_nothing_one_end_is_given_up(start):
+    """Both ends beat, and without that nothing would ever go on."""
+    cluster, users = start(breakable=True)
+    # In front of node 2: what others send to it, and what it answers.
+    cluster.between[1].cut()
+    wait(15, lambda: len(cluster.detected()) == 1, "nobody is given up")
+    [lost] = cluster.detected()
+    cluster.node(lost).may_fail = True
+    wait(10, cluster.settles([server for server in (1, 2, 3) if server != lost]), "the chain doesn't go on")
+    answered(users)
+    wait(5, lambda: not cluster.node(lost).lives(), "it doesn't hear that it is lost")
+
+
+def test_one_that_joins_is_given_up_where_too_much_waits_for_it(start):
+    cluster, users = start(words=lambda number: ["--joiner-memory", "1KiB"])
+    cluster.start_node()
+    node = cluster.nodes[3]
+    wait(15, lambda: not node.lives(), "it isn't given up")
+    assert node.process.returncode == 0 and cluster.detected() == [4]
+    answered(users)
+
+
 def test_who_does_not_reach_etcd_hears_of_a_loss_by_a_link_ahead_of_what_follows(start):
     cluster, users = start()
     cluster.kill(2)

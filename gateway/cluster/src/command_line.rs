@@ -6,7 +6,8 @@ use std::path::PathBuf;
 use anyhow::{bail, Result};
 use clap::{ArgGroup, Args, Subcommand};
 
-use crate::node::{self, gateway, Beginning, End};
+use crate::memory::{usual_bound, Size};
+use crate::node::{self, gateway, Beginning, End, Limits};
 use crate::records::Cluster;
 use crate::roster::MOST_MEMBERS;
 use crate::{master, say, status, up};
@@ -48,6 +49,12 @@ pub struct Node {
     /// The gateway's file of options, as serve --config has it
     #[arg(long, value_name = "FILE", requires = "gateway")]
     gateway_config: Option<PathBuf>,
+    /// What messages may use here, by the count of the gateway that acts [default: 40 % of this machine's memory]
+    #[arg(long, value_name = "SIZE")]
+    memory: Option<Size>,
+    /// What may wait here for a server that joins
+    #[arg(long, value_name = "SIZE", default_value = "256MiB")]
+    joiner_memory: Size,
     /// The program cq [default: cq of the path]
     #[arg(long, value_name = "PROGRAM", env = "HOBBYCHAIR_CQ")]
     pub cq: Option<String>,
@@ -124,7 +131,9 @@ pub fn run_node(node: Node, program: String) -> Result<()> {
     let beginning = node.first.map_or(Beginning::Join, Beginning::First);
     let config = node.gateway_config;
     let gateway = node.gateway.map(|listen| gateway::Settings { listen, config });
-    let settings = node::Settings { listen: node.listen, beginning, program, gateway, trace: node.trace };
+    let memory = node.memory.unwrap_or_else(usual_bound);
+    let limits = Limits { memory: memory.0, joiner: node.joiner_memory.0 };
+    let settings = node::Settings { listen: node.listen, beginning, program, gateway, limits, trace: node.trace };
     let runtime = runtime(2)?;
     let end = runtime.block_on(async { node::run(node.which.find().await?, settings).await })?;
     runtime.shutdown_background();

@@ -5,6 +5,7 @@ use std::time::Duration;
 
 use bytes::Bytes;
 
+use crate::cut::Cut;
 use crate::etcd::{Guard, Operation};
 use crate::records::{Keys, Line, Piece};
 use crate::roster::Roster;
@@ -65,7 +66,7 @@ impl View<'_> {
         })
     }
 
-    /// The first server in the line that is lost and can be given up.
+    /// The first server in the line that is lost and can be given up, or one that is cut off from another.
     fn detect(&self) -> (Option<Decision>, Option<String>) {
         let mut why = None;
         for server in self.roster.line_of_servers() {
@@ -83,16 +84,35 @@ impl View<'_> {
             } else {
                 Guard::IsOfRevision(self.keys.beat(server), self.silence.revision(server))
             };
-            let line = self.roster.line + 1;
-            let also = vec![
-                Operation::Put(self.keys.detected(server), line.to_string()),
-                Operation::delete(&self.keys.beat(server)),
-                Operation::delete(&self.keys.condemned(server)),
-                self.keys.without_letters(server, u64::MAX - 1),
-            ];
-            return (Some(Decision::Append { line: Line::Detect { server }, guards: vec![guard], also }), why);
+            return (Some(self.detection(server, vec![guard])), why);
+        }
+        let (cut_off, why_kept) = self.detect_cut_off();
+        (cut_off, why.or(why_kept))
+    }
+
+    /// One end of a link that carries nothing, though both ends beat.
+    fn detect_cut_off(&self) -> (Option<Decision>, Option<String>) {
+        let mut why = None;
+        for (Cut { first, second }, ends) in self.silence.cut_off(self.roster, self.now) {
+            if let Some(server) = ends.into_iter().find(|end| self.why_kept(*end).is_none()) {
+                tracing::warn!(server, "servers {first} and {second} beat and don't hear each other");
+                return (Some(self.detection(server, Vec::new())), None);
+            }
+            let reason = self.why_kept(ends[0]).unwrap_or_default();
+            why = Some(format!("servers {first} and {second} don't hear each other, and {reason}"));
         }
         (None, why)
+    }
+
+    fn detection(&self, server: u32, guards: Vec<Guard>) -> Decision {
+        let line = self.roster.line + 1;
+        let also = vec![
+            Operation::Put(self.keys.detected(server), line.to_string()),
+            Operation::delete(&self.keys.beat(server)),
+            Operation::delete(&self.keys.condemned(server)),
+            self.keys.without_letters(server, u64::MAX - 1),
+        ];
+        Decision::Append { line: Line::Detect { server }, guards, also }
     }
 
     /// Why a server isn't given up though it seems to be lost: another member has to have all that was acknowledged, and
@@ -143,13 +163,16 @@ mod tests {
         revision: i64,
         letters: Vec<Letter>,
         condemned: BTreeSet<u32>,
+        /// Who doesn't hear whom.
+        deaf: Vec<(u32, u32)>,
     }
 
     impl Candidate {
         fn new(size: u32) -> Candidate {
             let roster = Roster::of_first_chain(size);
-            let (letters, condemned) = (Vec::new(), BTreeSet::new());
-            Candidate { roster, silence: Silence::default(), now: Duration::ZERO, revision: 0, letters, condemned }
+            let (letters, condemned, deaf) = (Vec::new(), BTreeSet::new(), Vec::new());
+            let silence = Silence::default();
+            Candidate { roster, silence, now: Duration::ZERO, revision: 0, letters, condemned, deaf }
         }
 
         /// So many looks, at each of which these servers have beaten; the others have beaten before.
@@ -159,8 +182,11 @@ mod tests {
                 self.revision += 1;
                 let beats =
                     beat.iter().map(|server| (*server, self.revision)).chain(others.iter().map(|server| (*server, 1)));
-                let with_beat =
-                    |(server, revision)| (server, revision, Beat { joins: joins == Some(server), ..Beat::default() });
+                let hears =
+                    |server: u32| beat.iter().copied().filter(|other| !self.deaf.contains(&(server, *other))).collect();
+                let with_beat = |(server, revision)| {
+                    (server, revision, Beat { joins: joins == Some(server), hears: hears(server), ..Beat::default() })
+                };
                 self.silence.look(beats.map(with_beat).collect(), &self.roster, self.now);
             }
         }
@@ -264,6 +290,43 @@ mod tests {
         candidate.look(2, &[1, 2], &[], Some(2));
         candidate.roster.feed(&Line::Join { server: 2 }, []);
         candidate.look(6, &[1], &[2], None);
+        assert_eq!(candidate.line(), Some(Line::Detect { server: 2 }));
+    }
+
+    #[test]
+    fn of_two_that_do_not_hear_each_other_the_one_is_given_up_that_fewer_hear() {
+        let mut candidate = Candidate::new(3);
+        candidate.look(2, &[1, 2, 3], &[], None);
+        candidate.deaf = vec![(2, 1), (3, 1)];
+        candidate.look(5, &[1, 2, 3], &[], None);
+        assert_eq!(candidate.line(), None);
+        candidate.look(1, &[1, 2, 3], &[], None);
+        assert_eq!(candidate.line(), Some(Line::Detect { server: 1 }));
+        candidate.deaf = vec![(2, 1), (1, 2)];
+        candidate.look(1, &[1, 2, 3], &[], None);
+        assert_eq!(candidate.line(), Some(Line::Detect { server: 2 }), "both are heard by one, so it is the later one");
+        candidate.deaf.clear();
+        candidate.look(1, &[1, 2, 3], &[], None);
+        assert_eq!(candidate.line(), None);
+    }
+
+    #[test]
+    fn where_the_one_that_fewer_hear_is_the_last_full_one_the_other_end_is_given_up() {
+        let mut candidate = Candidate::new(1);
+        candidate.roster.feed(&Line::Join { server: 2 }, []);
+        (candidate.roster.joiner, candidate.roster.members) = (None, vec![1, 2]);
+        candidate.deaf = vec![(2, 1)];
+        candidate.look(8, &[1, 2], &[], None);
+        assert_eq!(candidate.line(), Some(Line::Detect { server: 2 }));
+    }
+
+    #[test]
+    fn one_that_joins_goes_where_it_hears_nothing() {
+        let mut candidate = Candidate::new(1);
+        candidate.look(2, &[1, 2], &[], Some(2));
+        candidate.roster.feed(&Line::Join { server: 2 }, []);
+        candidate.deaf = vec![(2, 1)];
+        candidate.look(8, &[1, 2], &[], None);
         assert_eq!(candidate.line(), Some(Line::Detect { server: 2 }));
     }
 }

@@ -2,7 +2,7 @@
 //!
 //! A node (`node`) runs one `cq server` (`child`, `commands`) and carries what it puts to the others by links (`link`,
 //! `wire`). A candidate for the master (`master`) appends lines (`decision`, of what `silence` and `roster` say) to a log
-//! in etcd (`etcd`, `records`). The node of the head starts the gateway that acts (`node/gateway`, `pipe`), and fronts find
+//! in etcd (`etcd`, `records`); `cut` says which links carry nothing. The node of the head starts the gateway that acts (`node/gateway`, `pipe`), and fronts find
 //! it (`acting`). Two rules are kept: no clock and no lease is part of what keeps data safe, and a server
 //! ends only because the log says so, or by a fault of its own.
 
@@ -11,10 +11,12 @@ mod child;
 mod clock;
 pub mod command_line;
 mod commands;
+mod cut;
 mod decision;
 mod etcd;
 mod link;
 mod master;
+pub mod memory;
 mod node;
 pub mod parts;
 pub mod pipe;

@@ -39,6 +39,8 @@ const MOST_WRITTEN: usize = 1 << 20;
 struct Queue {
     /// Frames that the other end isn't known to have, with their numbers.
     frames: VecDeque<(u64, Bytes)>,
+    /// How many bytes these have.
+    bytes: usize,
     /// The number of the last frame.
     last: u64,
     is_closed: bool,
@@ -74,7 +76,9 @@ impl Link {
         let mut queue = lock(&self.queue);
         queue.last += 1;
         let number = queue.last;
-        queue.frames.push_back((number, make(number).bytes().into()));
+        let frame = Bytes::from(make(number).bytes());
+        queue.bytes += frame.len();
+        queue.frames.push_back((number, frame));
         drop(queue);
         self.wake.notify_one();
     }
@@ -82,6 +86,11 @@ impl Link {
     /// How many frames the other end isn't known to have.
     pub fn waiting(&self) -> usize {
         lock(&self.queue).frames.len()
+    }
+
+    /// How many bytes these frames have.
+    pub fn waiting_bytes(&self) -> usize {
+        lock(&self.queue).bytes
     }
 
     /// From now on the node is told when frames have come.
@@ -94,6 +103,7 @@ impl Link {
         let mut queue = lock(&self.queue);
         queue.is_closed = true;
         queue.frames.clear();
+        queue.bytes = 0;
         drop(queue);
         self.wake.notify_one();
     }
@@ -108,7 +118,9 @@ impl Link {
         if number > queue.last {
             return Err(other("it has received more than was sent"));
         }
-        while queue.frames.front().is_some_and(|(first, _)| *first <= number) {
+        while let Some((_, frame)) = queue.frames.front().filter(|(first, _)| *first <= number) {
+            let bytes = frame.len();
+            queue.bytes -= bytes;
             queue.frames.pop_front();
         }
         drop(queue);

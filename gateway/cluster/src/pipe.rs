@@ -24,6 +24,8 @@ pub enum FromNode {
     /// Nothing of the stream is taken from the first request on that was refused, for this number. All that is open has to
     /// be asked again, in order, in a stream with a larger number. `request`: the one that was refused first, if it has a name.
     Refused { stream: u64, code: u32, request: Option<RequestName> },
+    /// Messages may use so many bytes at each server of the chain, by the gateway's count.
+    Memory { bound: u64 },
 }
 
 /// What a request is known by.
@@ -73,6 +75,7 @@ impl FromNode {
                     out.number64(request.number);
                 });
             }),
+            FromNode::Memory { bound } => frame(6, |out| out.number64(*bound)),
         }
     }
 
@@ -90,6 +93,7 @@ impl FromNode {
                 let name = |from: &mut Reader| Ok(RequestName { client: from.number32()?, number: from.number64()? });
                 FromNode::Refused { stream, code, request: is_named.then(|| name(&mut from)).transpose()? }
             }
+            6 => FromNode::Memory { bound: from.number64()? },
             _ => return Err(Malformed("its kind is none of what a node tells")),
         };
         from.end()?;
@@ -139,6 +143,7 @@ mod tests {
             FromNode::Answer { message: run.clone() },
             FromNode::Acts,
             FromNode::Refused { stream: 3, code: 20, request: None },
+            FromNode::Memory { bound: 1 << 30 },
             FromNode::Refused { stream: 3, code: 20, request: Some(RequestName { client: 4, number: 5 }) },
         ];
         let gateway = [

@@ -39,9 +39,14 @@ pub struct Chain {
 }
 
 impl Chain {
+    /// The members, and the one that joins.
+    pub fn servers(&self) -> impl Iterator<Item = u32> + '_ {
+        self.members.iter().copied().chain(self.joiner)
+    }
+
     /// Whether that server is a member, or the one that joins.
     pub fn has_place(&self, server: u32) -> bool {
-        self.members.contains(&server) || self.joiner == Some(server)
+        self.servers().any(|one| one == server)
     }
 }
 
@@ -100,6 +105,9 @@ pub struct Beat {
     pub hears: Vec<u32>,
     /// So many clients are connected.
     pub clients: usize,
+    /// So many bytes its server's process has in memory.
+    #[serde(default)]
+    pub memory: u64,
     /// How far the gateway beside it is, if it is the head and has one.
     #[serde(default, skip_serializing_if = "Option::is_none")]
     pub gateway: Option<GatewayPhase>,
@@ -124,6 +132,13 @@ pub struct Registration {
     /// Where its gateway listens once its server is the head, if it has one.
     #[serde(default, skip_serializing_if = "Option::is_none")]
     pub gateway: Option<SocketAddr>,
+    /// Messages may use so many bytes there; 0 where it says nothing of that.
+    #[serde(default, skip_serializing_if = "is_zero")]
+    pub memory: u64,
+}
+
+fn is_zero(number: &u64) -> bool {
+    *number == 0
 }
 
 /// The keys of a cluster.
@@ -347,7 +362,7 @@ mod tests {
     #[test]
     fn a_node_without_a_gateway_says_nothing_of_one() {
         let address = "127.0.0.1:7001".parse().unwrap();
-        let without = Registration { nonce: "n".into(), address, gateway: None };
+        let without = Registration { nonce: "n".into(), address, gateway: None, memory: 0 };
         assert_eq!(text(&without), r#"{"nonce":"n","address":"127.0.0.1:7001"}"#);
         let with = Registration { gateway: Some(address), ..without.clone() };
         for one in [without, with] {

@@ -5,6 +5,7 @@
 use std::collections::BTreeMap;
 use std::time::Duration;
 
+use crate::cut::{Cut, Unheard};
 use crate::records::Beat;
 use crate::roster::Roster;
 
@@ -41,6 +42,7 @@ pub struct Silence {
     seen: BTreeMap<u32, Seen>,
     /// Servers that have never beaten: since when they are looked for, by the time of contact.
     missing: BTreeMap<u32, Duration>,
+    unheard: Unheard,
 }
 
 impl Silence {
@@ -67,6 +69,9 @@ impl Silence {
             self.missing.entry(server).or_insert(self.contact);
         }
         self.missing.retain(|server, _| roster.line_of_servers().any(|one| one == *server));
+        let mut unheard = std::mem::take(&mut self.unheard);
+        unheard.look(roster, self.contact, |one, other| self.hears(one, other, roster, began));
+        self.unheard = unheard;
         if !was_any_fresh {
             // All were silent: who comes back first has no advantage.
             self.begin_anew();
@@ -77,6 +82,20 @@ impl Silence {
         let contact = self.contact;
         self.seen.values_mut().for_each(|seen| seen.changed = contact);
         self.missing.values_mut().for_each(|since| *since = contact);
+        self.unheard.begin_anew(contact);
+    }
+
+    /// Whether a server hears another one, where both beat.
+    fn hears(&self, server: u32, other: u32, roster: &Roster, now: Duration) -> Option<bool> {
+        let beats =
+            |one: u32| self.seen.get(&one).filter(|seen| seen.fresh.is_some() && !self.is_silent(one, roster, now));
+        beats(server).zip(beats(other)).map(|(seen, _)| seen.beat.hears.contains(&other))
+    }
+
+    /// Servers that need each other, beat, and don't hear each other, with the end first that is to be given up.
+    pub fn cut_off(&self, roster: &Roster, now: Duration) -> Vec<(Cut, [u32; 2])> {
+        let cuts = self.unheard.cuts(roster, self.contact);
+        cuts.into_iter().map(|cut| (cut, cut.ends(roster, |one, other| self.hears(one, other, roster, now)))).collect()
     }
 
     pub fn is_fresh(&self, server: u32, now: Duration) -> bool {

@@ -10,6 +10,7 @@ use tokio::time::sleep;
 
 use crate::decision::View;
 use crate::etcd::{Entry, Operation};
+use crate::memory::Size;
 use crate::records::{self, last_number, Beat, Chain, Cluster, GatewayPhase, Line, Registration};
 use crate::roster::Roster;
 use crate::silence::Silence;
@@ -18,7 +19,7 @@ use crate::silence::Silence;
 const LOOK: Duration = Duration::from_millis(1200);
 
 /// What is said of a server, for people.
-const COLUMNS: usize = 10;
+const COLUMNS: usize = 11;
 
 /// One server.
 #[derive(Debug, Serialize)]
@@ -37,6 +38,10 @@ struct Server {
     is_acting: bool,
     is_condemned: bool,
     clients: usize,
+    /// So many bytes its process had in memory at its last beat.
+    memory_bytes: u64,
+    /// What messages may use there, by the count of the gateway that acts.
+    memory_bound_bytes: u64,
     /// How far its gateway is, by its last beat.
     gateway: Option<GatewayPhase>,
 }
@@ -123,6 +128,8 @@ fn servers(look: &Look, beats: impl Fn(&u32) -> bool) -> Vec<Server> {
             is_acting: beat.is_acting,
             is_condemned: look.condemned.contains(&number),
             clients: beat.clients,
+            memory_bytes: beat.memory,
+            memory_bound_bytes: look.registrations.get(&number).map_or(0, |registration| registration.memory),
             gateway: beat.gateway,
         }
     };
@@ -213,7 +220,7 @@ impl Status {
     pub fn columns(&self) -> String {
         let mut out = String::new();
         let _ = writeln!(out, "cluster {} {}, line {} of the log", self.cluster, self.incarnation, self.line);
-        let head = ["server", "address", "role", "count", "lag", "beats", "hears", "full", "acts", "gateway"];
+        let head = ["server", "address", "role", "count", "lag", "beats", "hears", "full", "acts", "memory", "gateway"];
         let head = head.map(String::from);
         let rows: Vec<[String; COLUMNS]> = std::iter::once(head).chain(self.servers.iter().map(row)).collect();
         let width = |column: usize| rows.iter().map(|row| row[column].len()).max().unwrap_or(0);
@@ -245,6 +252,7 @@ fn row(server: &Server) -> [String; COLUMNS] {
         hears.join(","),
         yes(server.is_full),
         yes(server.is_acting),
+        format!("{}/{}", Size(server.memory_bytes), Size(server.memory_bound_bytes)),
         match server.gateway {
             Some(GatewayPhase::Acts) => "acts".into(),
             Some(GatewayPhase::Begins) => "begins".into(),

@@ -12,6 +12,7 @@ use tokio::signal::unix::{signal, SignalKind};
 use tokio::time::sleep;
 
 use crate::child::end_with_this_process;
+use crate::memory::usual_bound;
 use crate::records::Cluster;
 use crate::{say, status};
 
@@ -58,9 +59,12 @@ pub async fn up(nodes: u32, folder: &Path, program: &str, gateway_config: Option
         command.args(words).args(["--cluster", NAME, "--etcd", &url, "--cq", program]);
         command
     };
+    // All nodes share this machine.
+    let memory = (usual_bound().0 / u64::from(nodes)).max(1).to_string();
     for number in 1..=nodes {
         let (first, gateway) = (number.to_string(), format!("127.0.0.1:{}", free_port()?));
         let mut node = command(&["node", "--listen", "127.0.0.1:0", "--first", &first, "--gateway", &gateway]);
+        node.args(["--memory", &memory]);
         if let Some(config) = gateway_config {
             node.arg("--gateway-config").arg(config);
         }

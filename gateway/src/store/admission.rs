@@ -19,6 +19,8 @@ const LOOK_AGAIN: u64 = 1000;
 /// The bound of memory, and what is to be counted beside the tables.
 pub struct Admission {
     queues: Arc<Queues>,
+    /// The bound that the gateway was given.
+    own: Option<u64>,
     pub memory: Bound,
     /// Bytes of sends that are with the program. The tables don't have them yet.
     coming: AtomicU64,
@@ -30,7 +32,12 @@ impl Admission {
     pub fn new(queues: Arc<Queues>, limit: Option<u64>) -> Admission {
         let memory = Bound::default();
         memory.set(limit);
-        Admission { queues, memory, coming: AtomicU64::new(0), looked: AtomicU64::new(0) }
+        Admission { queues, own: limit, memory, coming: AtomicU64::new(0), looked: AtomicU64::new(0) }
+    }
+
+    /// Messages may use so many bytes at each server of a chain: the lower bound counts.
+    pub fn bound_by_chain(&self, bytes: u64) {
+        self.memory.set(Some(self.own.map_or(bytes, |own| own.min(bytes))));
     }
 
     /// What is in use of memory, in bytes.
@@ -128,6 +135,16 @@ mod tests {
             sender.send(admitted)
         });
         assert_eq!(answer.recv_timeout(std::time::Duration::from_secs(20)), Ok([true, false]));
+    }
+
+    #[test]
+    fn of_a_chains_bound_and_its_own_the_lower_one_counts() {
+        for (own, told, counts) in [(None, 7, 7), (Some(5), 7, 5), (Some(9), 7, 7)] {
+            let admission = Admission::new(Arc::default(), own);
+            assert_eq!(admission.memory.limit(), own);
+            admission.bound_by_chain(told);
+            assert_eq!(admission.memory.limit(), Some(counts));
+        }
     }
 
     #[test]

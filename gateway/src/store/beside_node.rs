@@ -87,7 +87,7 @@ async fn take_up_from(
             FromNode::Chunk { chunk } => take(&chunk)?,
             FromNode::Stored { server } => return Ok((cq, NodeStart { server, incoming: cutter.buffer })),
             // They are about what an earlier gateway asked.
-            FromNode::Answer { .. } | FromNode::Acts | FromNode::Refused { .. } => {}
+            FromNode::Answer { .. } | FromNode::Acts | FromNode::Refused { .. } | FromNode::Memory { .. } => {}
         }
     }
 }

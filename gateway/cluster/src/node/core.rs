@@ -599,6 +599,9 @@ impl Core {
             return self.fail(format!("it was told to, and the chain hasn't let go of it within {seconds} s"));
         }
         self.tell_clients();
+        let servers = self.chain.iter().flat_map(Chain::servers);
+        let bound = self.node.least_memory(servers);
+        self.gateway.bound_memory(bound);
         self.gateway.tick(&self.node.time_for_gateway(), &mut self.streams);
         self.report();
     }
@@ -621,6 +624,13 @@ impl Core {
         self.is_stuck = is_stuck;
     }
 
+    /// The server that joins, if too much waits for it here.
+    fn late_joiner(&self) -> Option<u32> {
+        let joiner = self.chain.as_ref()?.joiner?;
+        let waiting = self.links.get(&joiner)?.waiting_bytes();
+        (waiting as u64 > self.node.limits.joiner).then_some(joiner)
+    }
+
     fn report(&self) {
         let hears =
             |(server, peer): (&u32, &Peer)| peer.heard.is_some_and(|heard| heard.elapsed() < HEARD).then_some(*server);
@@ -630,6 +640,7 @@ impl Core {
             hears: self.peers.iter().filter_map(hears).collect(),
             clients: self.streams.len(),
             condemned: self.is_stuck.then_some("its process doesn't answer").or(leaves),
+            late_joiner: self.late_joiner(),
             gateway: self.gateway.phase(),
         };
     }

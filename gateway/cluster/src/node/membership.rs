@@ -9,8 +9,8 @@ use bytes::Bytes;
 use tokio::time::{sleep, timeout};
 
 use crate::etcd::{Entry, Guard, Operation};
-use crate::lock;
 use crate::records::{self, last_number, Beat, Chain, Piece, Registration};
+use crate::{lock, memory};
 
 use super::{Event, Report, Shared};
 
@@ -160,6 +160,8 @@ impl Membership {
                 writes.push(Operation::Put(keys.condemned(self.node.id), why.into()));
             }
         }
+        let late = report.late_joiner.map(|server| keys.condemned(server));
+        writes.extend(late.map(|key| Operation::Put(key, "too much waits for it".into())));
         let waiting: Vec<(u64, Bytes)> = lock(&self.node.letters).iter().take(MOST_LETTERS).cloned().collect();
         let last = waiting.last().map(|(number, _)| *number);
         writes.extend(
@@ -183,6 +185,7 @@ impl Membership {
             took: self.next_order - 1,
             hears: report.hears.clone(),
             clients: report.clients,
+            memory: memory::used_by(self.node.child),
             gateway: report.gateway,
         }
     }

@@ -50,8 +50,18 @@ pub struct Settings {
     pub program: String,
     /// The gateway beside it, if it has one.
     pub gateway: Option<gateway::Settings>,
+    pub limits: Limits,
     /// A file for all that the server was told and told, for tests.
     pub trace: Option<PathBuf>,
+}
+
+/// What a node may use, in bytes.
+#[derive(Clone, Copy, Debug, PartialEq, Eq)]
+pub struct Limits {
+    /// What messages may use here, by the count of the gateway that acts.
+    pub memory: u64,
+    /// What may wait here for a server that joins. Beyond it that one is given up.
+    pub joiner: u64,
 }
 
 /// Why a node ends.
@@ -114,6 +124,8 @@ pub struct Report {
     pub clients: usize,
     /// Why the master is asked to do without this server.
     pub condemned: Option<&'static str>,
+    /// One that joins is to be given up, since too much waits for it.
+    pub late_joiner: Option<u32>,
     pub gateway: Option<GatewayPhase>,
 }
 
@@ -122,6 +134,9 @@ pub struct Shared {
     pub cluster: Cluster,
     pub id: u32,
     nonce: String,
+    limits: Limits,
+    /// The process of the server.
+    child: u32,
     events: UnboundedSender<Event>,
     clock: Mutex<Clock>,
     gone: Mutex<BTreeSet<u32>>,
@@ -163,6 +178,13 @@ impl Shared {
         Frame::Link { about: self.about(), from: self.id, nonce: self.nonce.clone(), to, gone: self.all_gone() }
     }
 
+    /// The least of what messages may use at these servers and here, as far as that is known.
+    fn least_memory(&self, servers: impl Iterator<Item = u32>) -> u64 {
+        let known = lock(&self.registrations);
+        let others = servers.filter_map(|server| known.get(&server)).map(|registration| registration.memory);
+        others.filter(|memory| *memory > 0).fold(self.limits.memory, u64::min)
+    }
+
     fn about(&self) -> About {
         About { cluster: self.cluster.name.clone(), incarnation: self.cluster.settings.incarnation.clone() }
     }
@@ -186,13 +208,16 @@ pub async fn run(cluster: Cluster, settings: Settings) -> Result<End> {
         TcpListener::bind(settings.listen).await.with_context(|| format!("can't listen on {}", settings.listen))?;
     let address = listener.local_addr()?;
     let nonce = random_name();
-    let id = register(&cluster, settings.beginning, &Registration { nonce: nonce.clone(), address, gateway }).await?;
+    let registration = Registration { nonce: nonce.clone(), address, gateway, memory: settings.limits.memory };
+    let id = register(&cluster, settings.beginning, &registration).await?;
     let (events, heard) = unbounded_channel();
     let child = start_child(&cluster, id, &settings, events.clone())?;
     let node = Arc::new(Shared {
         cluster: cluster.impatient(),
         id,
         nonce,
+        limits: settings.limits,
+        child: child.id(),
         events,
         clock: Mutex::default(),
         gone: Mutex::default(),

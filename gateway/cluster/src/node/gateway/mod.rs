@@ -131,6 +131,8 @@ pub struct Beside {
     acting: Option<u32>,
     /// Queries for the node's own server.
     queries: VecDeque<Bytes>,
+    /// What messages may use at each server, in bytes.
+    memory: u64,
 }
 
 impl Beside {
@@ -240,13 +242,21 @@ impl Beside {
         if life.timed.elapsed() >= TIME {
             life.timed = Instant::now();
             life.outlet.send_bytes(time.bytes());
-            life.unanswered += u32::from(life.store == Store::All);
+            if life.store == Store::All {
+                life.outlet.send_bytes(FromNode::Memory { bound: self.memory }.bytes());
+                life.unanswered += 1;
+            }
         }
         if life.unanswered >= MOST_UNANSWERED {
             self.give_up("it doesn't say that it works", streams);
         } else if life.client.is_some_and(|client| !streams.has(client)) {
             self.give_up("it doesn't read what it is told", streams);
         }
+    }
+
+    /// Messages may use so many bytes at each server. A gateway is told so with the time.
+    pub fn bound_memory(&mut self, bound: u64) {
+        self.memory = bound;
     }
 
     /// Tells the gateway something. Before it has the store nothing of this is about what it asked.

@@ -173,10 +173,11 @@ fn who_says_nothing_is_ended_once_it_has_the_store() {
     };
     assert!(beside.phase().is_none(), "none is kept");
     beside.is_kept = true;
+    beside.bound_memory(7);
     assert_eq!(beside.phase(), Some(GatewayPhase::Begins));
     for round in 1..2 * MOST_UNANSWERED {
         tick(&mut beside, &mut streams);
-        assert_eq!(far.heard(), [TIMED]);
+        assert_eq!(far.heard(), [TIMED, FromNode::Memory { bound: 7 }]);
         if round % (MOST_UNANSWERED - 1) == 0 {
             beside.happen(Happening::Told { life: 1, told: FromGateway::Alive { time: 7 } }, &mut streams);
             assert_eq!(beside.phase(), Some(GatewayPhase::Acts));

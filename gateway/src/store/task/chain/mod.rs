@@ -159,6 +159,10 @@ impl Task {
             FromNode::Acts if self.is_stopped() => Ok(()),
             FromNode::Acts => self.ask_open_again(),
             FromNode::Refused { stream, code, request } => self.stream_refused(stream, code, request),
+            FromNode::Memory { bound } => {
+                self.admission.bound_by_chain(bound);
+                Ok(())
+            }
             FromNode::Chunk { .. } | FromNode::Stored { .. } => Ok(()),
         }
     }
