@@ -115,6 +115,10 @@ pub struct Options {
     #[arg(long, hide = true, conflicts_with_all = ["journal", "journal_size", "shards"])]
     #[serde(skip)]
     beside_node: bool,
+    /// It ends once it has read its options and files, and could listen: a node looks at these before it begins.
+    #[arg(long, hide = true, requires = "beside_node")]
+    #[serde(skip)]
+    only_prepare: bool,
     #[arg(long, hide = true)]
     #[serde(skip)]
     clock_file: Option<PathBuf>,
@@ -374,6 +378,7 @@ impl Options {
             log: self.log.or(file.log),
             log_level: self.log_level.or(file.log_level),
             beside_node: self.beside_node,
+            only_prepare: self.only_prepare,
             clock_file: self.clock_file,
             queue: file.queue,
         }
@@ -477,6 +482,7 @@ impl Options {
             shards,
             journal,
             beside_node: self.beside_node,
+            only_prepares: self.only_prepare,
             memory: self.memory.map(|size| size.0),
             request_memory: request_memory(self.request_memory)?,
             credentials: self.credentials,

@@ -51,6 +51,8 @@ pub struct Settings {
     pub journal: Option<Files>,
     /// The store is kept by a chain of servers, and the node of the head has the other end of standard input.
     pub beside_node: bool,
+    /// It ends once it has read all that it was given, and could listen.
+    pub only_prepares: bool,
     /// So many bytes messages and what else counts may use.
     pub memory: Option<u64>,
     /// So many bytes may be kept by all requests that are being served.
@@ -94,6 +96,9 @@ pub async fn serve(settings: Settings) -> Result<()> {
     let wants_reading = Cell::new(false);
     let preparing = tokio::spawn(prepare(settings.clone()));
     let Some(prepared) = unless_ended(preparing, &mut signals, &wants_reading).await? else { return Ok(()) };
+    if settings.only_prepares {
+        return Ok(());
+    }
     let starting = tokio::spawn(start(settings.clone(), prepared));
     let Some(started) = unless_ended(starting, &mut signals, &wants_reading).await? else { return Ok(()) };
     if wants_reading.get() {
@@ -146,7 +151,8 @@ async fn prepare(settings: Arc<Settings>) -> Result<Prepared> {
         peeks: settings.peek.then(|| Peeks::new(settings.owner.clone())),
         store: OnceLock::new(),
     });
-    if let Some(address) = &settings.admin {
+    // Another gateway of this machine may serve operators by now.
+    if let Some(address) = settings.admin.as_ref().filter(|_| !settings.only_prepares) {
         let listener = listen_for_operators(address)?;
         tokio::spawn(admin.clone().serve(listener, places.operators));
     }

@@ -5,6 +5,7 @@ from __future__ import annotations
 import json
 import os
 import signal
+import socket
 import subprocess
 from pathlib import Path
 
@@ -116,6 +117,27 @@ def test_a_whole_cluster_goes_up_serves_and_goes_down(tmp_path):
     assert (folder / "etcd").is_dir()
     assert "was used before, and is left as it is" in refused("cluster", "up", "--folder", str(folder))
     assert (folder / "etcd").is_dir()
+
+
+def test_a_node_does_not_begin_where_its_gateway_would_not(tmp_path):
+    config = tmp_path / "gateway.toml"
+    cluster = Cluster(tmp_path, size=1, masters=0, absent=(1,))
+    try:
+        which = ["--cluster", NAME, "--etcd", cluster.etcd.urls[0], "--listen", "127.0.0.1:0", "--first", "1"]
+        [port] = free_ports(1)
+        config.write_text("connections = 0\n")
+        gateway = ["--gateway", f"127.0.0.1:{port}", "--gateway-config", str(config)]
+        assert "connections" in refused("node", *which, *gateway)
+        config.write_text('credentials = "nowhere"\n')
+        assert "nowhere" in refused("node", *which, *gateway)
+        config.write_text("connections = 7\n")
+        with socket.create_server(("127.0.0.1", port)):
+            assert f"can't listen on 127.0.0.1:{port}" in refused("node", *which, *gateway)
+        # Its number wasn't taken by any of these.
+        node = cluster.start_node(1)
+        wait(10, node.look, "it doesn't begin")
+    finally:
+        cluster.end()
 
 
 def children_of(process: int) -> list[int]:

@@ -77,7 +77,7 @@ pub async fn up(nodes: u32, folder: &Path, program: &str, gateway_config: Option
     let words = ["serve", "--host", "127.0.0.1", "--port", &front.to_string()];
     processes.push(begin(command(&words), folder, "front")?);
     let cluster = Cluster::find(NAME, &urls).await?;
-    tell_of(&cluster, nodes, &url, folder).await?;
+    tell_of(&cluster, nodes, &url, folder, &mut processes).await?;
     wait_for(front, folder).await?;
     say(&format!("to send requests: http://127.0.0.1:{front}"));
     say("the cluster is up, until this is interrupted");
@@ -164,9 +164,15 @@ async fn create(urls: &[String], nodes: u32) -> Result<()> {
     }
 }
 
-async fn tell_of(cluster: &Cluster, nodes: u32, url: &str, folder: &Path) -> Result<()> {
+async fn tell_of(cluster: &Cluster, nodes: u32, url: &str, folder: &Path, processes: &mut [Process]) -> Result<()> {
     let begun = Instant::now();
     loop {
+        for process in &mut *processes {
+            if let Ok(Some(status)) = process.child.try_wait() {
+                let log = folder.join(format!("{}.log", process.name));
+                bail!("{} has ended ({status}): {} has what it said", process.name, log.display());
+            }
+        }
         let status = status::look(cluster).await?;
         if status.beating() >= nodes as usize {
             say(status.columns().trim_end());

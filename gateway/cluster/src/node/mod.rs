@@ -204,6 +204,9 @@ pub async fn run(cluster: Cluster, settings: Settings) -> Result<End> {
             bail!("{gateway} has no port: fronts have to find the gateway there");
         }
     }
+    if let Some(settings) = &settings.gateway {
+        gateway::test(settings).await?;
+    }
     let listener =
         TcpListener::bind(settings.listen).await.with_context(|| format!("can't listen on {}", settings.listen))?;
     let address = listener.local_addr()?;

@@ -135,6 +135,8 @@ pub struct Beside {
     memory: u64,
 }
 
+pub use process::test;
+
 impl Beside {
     pub fn new(settings: Option<Settings>) -> Beside {
         Beside { settings, ..Beside::default() }

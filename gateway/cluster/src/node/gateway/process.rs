@@ -93,10 +93,29 @@ impl Process {
     }
 }
 
+/// Tries whether a gateway would begin: it reads its options and files, and takes its address for a moment. An error says what
+/// it said.
+pub async fn test(settings: &Settings) -> anyhow::Result<()> {
+    let mut command = program(settings)?;
+    command.arg("--only-prepare").stdin(Stdio::null());
+    let output = tokio::task::spawn_blocking(move || command.output()).await??;
+    if !output.status.success() {
+        let said = String::from_utf8_lossy(&output.stderr);
+        anyhow::bail!("a gateway wouldn't begin beside this node: {}", said.trim());
+    }
+    Ok(())
+}
+
 /// The command, and this end of the socket that is its standard input.
 fn command(settings: &Settings) -> io::Result<(Command, Socket)> {
     let (own, other) = Socket::pair()?;
     own.set_nonblocking(true)?;
+    let mut command = program(settings)?;
+    command.stdin(Stdio::from(OwnedFd::from(other)));
+    Ok((command, own))
+}
+
+fn program(settings: &Settings) -> io::Result<Command> {
     let mut command = Command::new(std::env::current_exe()?);
     command.args(["serve", "--beside-node", "--host", &settings.listen.ip().to_string()]);
     command.args(["--port", &settings.listen.port().to_string()]);
@@ -105,9 +124,9 @@ fn command(settings: &Settings) -> io::Result<(Command, Socket)> {
     }
     // A node may be told by these where fronts find its cluster. This one is no front.
     command.env_remove("HOBBYCHAIR_CLUSTER").env_remove("HOBBYCHAIR_ETCD");
-    command.stdin(Stdio::from(OwnedFd::from(other))).process_group(0);
+    command.process_group(0);
     end_with_this_process(&mut command);
-    Ok((command, own))
+    Ok(command)
 }
 
 async fn spawn(command: Command, socket: Socket) -> io::Result<(UnixStream, Process)> {
