@@ -1,7 +1,8 @@
 //! Which links carry nothing, as one candidate for the master sees it, and who is given up for it. It is a guess, too.
 //!
 //! Beats go by etcd, so two servers can beat whose link carries nothing, and then the chain stands still. Of its two ends
-//! the one is given up that fewer others hear: so a server whose network fails doesn't have the others thrown out one by one.
+//! the one is given up that stands in contact with fewer others: so a server whose network fails, one way or both, doesn't
+//! have the others thrown out one by one.
 
 use std::collections::BTreeMap;
 use std::time::Duration;
@@ -63,14 +64,15 @@ fn neighbours(roster: &Roster) -> Vec<Cut> {
 }
 
 impl Cut {
-    /// Its ends, the one first that is to be given up: the one that joins, or that fewer others hear, or the later one.
+    /// Its ends, the one first that is to be given up: the one that joins, or that is in contact with fewer, each hearing the
+    /// other, or the later one.
     pub fn ends(&self, roster: &Roster, hears: impl Fn(u32, u32) -> Option<bool>) -> [u32; 2] {
         let Cut { first, second } = *self;
-        let witnesses = |server: u32| {
-            let others = roster.members.iter().filter(|member| **member != server);
-            others.filter(|member| hears(**member, server) == Some(true)).count()
+        let contacts = |server: u32| {
+            let others = roster.members.iter().copied().filter(|member| *member != server);
+            others.filter(|member| hears(*member, server).zip(hears(server, *member)) == Some((true, true))).count()
         };
-        if roster.joiner != Some(second) && witnesses(first) < witnesses(second) {
+        if roster.joiner != Some(second) && contacts(first) < contacts(second) {
             [first, second]
         } else {
             [second, first]
@@ -121,11 +123,13 @@ mod tests {
     }
 
     #[test]
-    fn who_is_heard_by_fewer_is_given_up_or_the_later_one_or_who_joins() {
+    fn who_is_in_contact_with_fewer_is_given_up_or_the_later_one_or_who_joins() {
         let mut roster = Roster::of_first_chain(3);
         let cut = Cut { first: 1, second: 2 };
         assert_eq!(cut.ends(&roster, |_, _| Some(true)), [2, 1]);
-        assert_eq!(cut.ends(&roster, |_, server| Some(server != 1)), [1, 2]);
+        assert_eq!(cut.ends(&roster, |_, server| Some(server != 1)), [1, 2], "nobody hears it");
+        assert_eq!(cut.ends(&roster, |server, _| Some(server != 1)), [1, 2], "it hears nobody");
+        assert_eq!(cut.ends(&roster, |server, _| Some(server != 2)), [2, 1]);
         assert_eq!(cut.ends(&roster, |_, server| (server != 2).then_some(true)), [2, 1]);
         roster.joiner = Some(4);
         let cut = Cut { first: 3, second: 4 };

@@ -294,7 +294,7 @@ mod tests {
     }
 
     #[test]
-    fn of_two_that_do_not_hear_each_other_the_one_is_given_up_that_fewer_hear() {
+    fn of_two_that_do_not_hear_each_other_the_one_is_given_up_that_has_fewer_contacts() {
         let mut candidate = Candidate::new(3);
         candidate.look(2, &[1, 2, 3], &[], None);
         candidate.deaf = vec![(2, 1), (3, 1)];
@@ -304,19 +304,18 @@ mod tests {
         assert_eq!(candidate.line(), Some(Line::Detect { server: 1 }));
         candidate.deaf = vec![(2, 1), (1, 2)];
         candidate.look(1, &[1, 2, 3], &[], None);
-        assert_eq!(candidate.line(), Some(Line::Detect { server: 2 }), "both are heard by one, so it is the later one");
+        assert_eq!(candidate.line(), Some(Line::Detect { server: 2 }), "both have one contact, so it is the later one");
         candidate.deaf.clear();
         candidate.look(1, &[1, 2, 3], &[], None);
         assert_eq!(candidate.line(), None);
     }
 
     #[test]
-    fn where_the_one_that_fewer_hear_is_the_last_full_one_the_other_end_is_given_up() {
+    fn where_the_one_with_fewer_contacts_is_the_last_full_one_the_other_end_is_given_up() {
         let mut candidate = Candidate::new(1);
-        candidate.roster.feed(&Line::Join { server: 2 }, []);
-        (candidate.roster.joiner, candidate.roster.members) = (None, vec![1, 2]);
-        candidate.deaf = vec![(2, 1)];
-        candidate.look(8, &[1, 2], &[], None);
+        candidate.roster.members = vec![1, 2, 3];
+        candidate.deaf = vec![(2, 1), (3, 1)];
+        candidate.look(8, &[1, 2, 3], &[], None);
         assert_eq!(candidate.line(), Some(Line::Detect { server: 2 }));
     }
 
