@@ -119,6 +119,14 @@ impl Policy {
         }
     }
 
+    fn statements(&self) -> &[Value] {
+        match self.0.get(STATEMENT) {
+            Some(Value::Array(statements)) => statements,
+            Some(one) => std::slice::from_ref(one),
+            None => &[],
+        }
+    }
+
     fn take_statements(&mut self) -> Vec<Value> {
         match self.0.remove(STATEMENT) {
             Some(Value::Array(statements)) => statements,
@@ -143,6 +151,17 @@ impl Policy {
         self.0.entry("Id").or_insert_with(|| format!("{arn}/SQSDefaultPolicy").into());
         self.0.insert(STATEMENT.into(), statements.into());
         Ok(())
+    }
+
+    /// Whether this permission was added, and is there still.
+    pub fn has(&self, permission: &Permission, arn: &str) -> bool {
+        let wanted = permission.statement(arn);
+        self.statements().contains(&wanted)
+    }
+
+    /// Whether there is a statement of this label.
+    pub fn names(&self, label: &str) -> bool {
+        self.statements().iter().any(|statement| is_labelled(statement, label))
     }
 
     /// Takes the statement of a label out. One that isn't there is `InvalidParameterValue`.
@@ -187,6 +206,8 @@ mod tests {
         let mut policy = Policy::of_queue(r#"{"Statement":{"Sid":"own"}}"#).unwrap();
         policy.add(&permission("a"), "arn").unwrap();
         assert!(Policy::is_one(&policy.text()));
+        assert!(policy.has(&permission("a"), "arn") && !policy.has(&permission("a"), "other"));
+        assert!(policy.names("a") && policy.names("own") && !policy.names("b"));
         assert!(matches!(policy.clone().add(&permission("own"), "arn"), Err(SqsError::InvalidParameterValue(_))));
         assert!(matches!(policy.clone().remove("b"), Err(SqsError::InvalidParameterValue(_))));
         policy.remove("own").unwrap();

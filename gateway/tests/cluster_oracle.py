@@ -176,6 +176,15 @@ class Run:
             assert next(rest, None) is None, f"server {party} gave more answers"
         return len(script)
 
+    def check_servers(self) -> int:
+        """What holds whoever asks. Says how many events there were."""
+        self.check_gone()
+        events = self.check_world()
+        nodes = self.cluster.nodes
+        failed = [node.server for node in nodes if node.process.poll() not in (None, 0, -9) and not node.may_fail]
+        assert not failed, f"servers {failed} failed by themselves"
+        return events
+
     def check_gone(self) -> None:
         """Who takes a message was told ahead of it of each server that its sender had been told of when it put it."""
         at_put: dict[tuple[Any, Any], list[set[int]]] = {}
@@ -206,9 +215,8 @@ class Run:
             begin = put.index(heard[0]) if heard else 0
             assert heard == put[begin : begin + len(heard)], f"users heard other answers of server {server} than it put"
 
-    def check_users(self, users: Users) -> None:
-        """Each acknowledged request has one place in the list, behind all that was acknowledged before it was asked, and its
-        answer is that of the list."""
+    def check_list(self) -> list[tuple[int, dict[str, Any]]]:
+        """The list of the chain: what each member has is a front of it."""
         chain = self.cluster.chain()
         histories = {server: self.history(server) for server in chain["members"]}
         entries = max(histories.values(), key=len)
@@ -216,6 +224,12 @@ class Run:
             assert history == entries[: len(history)], f"the history of server {server} is no front of the longest one"
         moments = [moment for moment, _ in entries]
         assert moments == sorted(moments)
+        return entries
+
+    def check_users(self, users: Users) -> None:
+        """Each acknowledged request has one place in the list, behind all that was acknowledged before it was asked, and its
+        answer is that of the list."""
+        entries = self.check_list()
         by_place = {}
         highest, floors = 0, {}
         events = [(one.asked, 0, one) for one in users.records] + [(one.at, 1, one) for one in users.records]
@@ -312,16 +326,23 @@ def replay_of_list(entries: list[tuple[int, dict[str, Any]]]) -> list[dict[str, 
 
 def check(cluster: Cluster, users: Users) -> int:
     """All of it. The users have stopped, and so do the nodes."""
+    run = stopped(cluster)
+    run.check_users(users)
+    run.check_heard(users)
+    return run.check_servers()
+
+
+def check_servers(cluster: Cluster) -> int:
+    """What servers did, whoever asked. The nodes stop."""
+    run = stopped(cluster)
+    run.check_list()
+    return run.check_servers()
+
+
+def stopped(cluster: Cluster) -> Run:
     for node in cluster.nodes:
         if node.lives():
             node.stop()
     written_again = cluster.etcd.rewritten(f"{cluster.root}/master/log/")
     assert not written_again, f"a line was appended where one was already: {written_again}"
-    run = Run(cluster)
-    run.check_users(users)
-    run.check_heard(users)
-    run.check_gone()
-    events = run.check_world()
-    failed = [node.server for node in cluster.nodes if node.process.poll() not in (None, 0, -9) and not node.may_fail]
-    assert not failed, f"servers {failed} failed by themselves"
-    return events
+    return Run(cluster)

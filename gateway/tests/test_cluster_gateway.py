@@ -2,68 +2,20 @@
 
 from __future__ import annotations
 
-import itertools
 import json
 import os
 import signal
-import threading
 import time
-from collections import defaultdict
-from collections.abc import Callable, Iterator
+from collections.abc import Iterator
 from pathlib import Path
-from typing import Any
 
-import botocore.exceptions
 import pytest
 
-from clusters import NAME, Cluster, has_etcd, wait
-from started import Started, boto3_client
+from cluster_work import Served, Work, arn
+from clusters import has_etcd, wait
+from started import boto3_client
 
 pytestmark = pytest.mark.skipif(not has_etcd(), reason="etcd isn't there: Debian's etcd-server has it")
-
-# What a client takes for an answer that didn't come.
-UNANSWERED = (botocore.exceptions.BotoCoreError, botocore.exceptions.ClientError)
-
-# So long a message of the tests is hidden, in seconds.
-TIMEOUT = 6
-
-
-class Served:
-    """A cluster with a front, and a client of that."""
-
-    def __init__(self, room: Path, size: int = 3, **how: Any) -> None:
-        self.cluster = Cluster(room, size=size, gateways=True, **how)
-        try:
-            wait(30, lambda: self.cluster.gateway_acts(1), "no gateway acts")
-            self.front = Started("--cluster", NAME, "--etcd", self.cluster.etcd.urls[0])
-        except BaseException:
-            print(self.cluster.said())
-            self.cluster.end()
-            raise
-        self.sqs = self.client()
-
-    def client(self):
-        return boto3_client(self.front.url, read_timeout=60, connect_timeout=5)
-
-    def queue(self, name: str, **attributes: str) -> str:
-        fifo = {"FifoQueue": "true"} if name.endswith(".fifo") else {}
-        return self.sqs.create_queue(QueueName=name, Attributes=fifo | attributes)["QueueUrl"]
-
-    def receive(self, queue: str, **more: Any) -> list[dict[str, Any]]:
-        names = ["All"]
-        return self.sqs.receive_message(QueueUrl=queue, MaxNumberOfMessages=10, AttributeNames=names, **more).get("Messages", [])
-
-    def delete(self, queue: str, message: dict[str, Any]) -> None:
-        self.sqs.delete_message(QueueUrl=queue, ReceiptHandle=message["ReceiptHandle"])
-
-    def counts(self, queue: str) -> list[int]:
-        names = ["ApproximateNumberOfMessages", "ApproximateNumberOfMessagesNotVisible", "ApproximateNumberOfMessagesDelayed"]
-        got = self.sqs.get_queue_attributes(QueueUrl=queue, AttributeNames=names)["Attributes"]
-        return [int(got[name]) for name in names]
-
-    def end(self) -> None:
-        self.front.kill()
-        self.cluster.end()
 
 
 @pytest.fixture
@@ -162,148 +114,36 @@ def fill(served: Served, queue: str, body: str, most: int = 100) -> int:
     return most
 
 
+def test_what_was_done_is_no_error_the_second_time(served):
+    """A front that got no answer asks again, and says so."""
+    sqs = boto3_client(f"http://127.0.0.1:{served.cluster.node(1).gateway_port}", read_timeout=60)
+    queue = served.queue("q")
+    dead = served.queue("dead")
+    served.queue("source", RedrivePolicy=json.dumps({"deadLetterTargetArn": arn("dead"), "maxReceiveCount": 1}))
+    permission = {"QueueUrl": queue, "Label": "a", "AWSAccountIds": ["123456789012"], "Actions": ["SendMessage"]}
+    task = {"SourceArn": arn("dead"), "DestinationArn": arn("q"), "MaxNumberOfMessagesPerSecond": 1}
+    for number in range(20):
+        sqs.send_message(QueueUrl=dead, MessageBody=str(number))
+    sqs.add_permission(**permission)
+    handle = sqs.start_message_move_task(**task)["TaskHandle"]
+    refused = sqs.exceptions.ClientError
+    with pytest.raises(refused, match="Already exists"):
+        sqs.add_permission(**permission)
+    with pytest.raises(refused, match="already a task running"):
+        sqs.start_message_move_task(**task)
+    sqs.meta.events.register("before-send.sqs.*", lambda request, **_: request.headers.add_header("x-hobbychair-again", "true"))
+    sqs.add_permission(**permission)
+    with pytest.raises(refused, match="Already exists"):
+        sqs.add_permission(**permission | {"Actions": ["ReceiveMessage"]})
+    assert sqs.start_message_move_task(**task)["TaskHandle"] == handle
+    with pytest.raises(refused, match="already a task running"):
+        sqs.start_message_move_task(**task | {"MaxNumberOfMessagesPerSecond": 2})
+    for _ in range(2):
+        sqs.remove_permission(QueueUrl=queue, Label="a")
+        assert sqs.cancel_message_move_task(TaskHandle=handle)["ApproximateNumberOfMessagesMoved"] < 20
+
+
 # ---- faults
-
-
-def whole(body: str, size: int) -> str:
-    """A body that begins so, and has so many bytes more."""
-    return f"{body} {body * (size // len(body))}" if size else body
-
-
-class Work:
-    """Clients that send, receive and delete until they are stopped."""
-
-    def __init__(self, served: Served) -> None:
-        self.served = served
-        self.fifo = served.queue("work.fifo", VisibilityTimeout=str(TIMEOUT))
-        self.standard = served.queue("work", VisibilityTimeout=str(TIMEOUT))
-        self.delayed = served.queue("delayed", VisibilityTimeout=str(TIMEOUT), DelaySeconds="2")
-        self.large = served.queue("large", VisibilityTimeout=str(TIMEOUT))
-        # What is received of the one, and never deleted, comes to the other.
-        self.dead = served.queue("dead", VisibilityTimeout=str(TIMEOUT))
-        policy = {"deadLetterTargetArn": "arn:aws:sqs:us-east-1:000000000000:dead", "maxReceiveCount": 1}
-        self.source = served.queue("source", VisibilityTimeout="1", RedrivePolicy=json.dumps(policy))
-        self.queues = (self.fifo, self.standard, self.delayed, self.large, self.dead)
-        self.acknowledged: dict[str, list[str]] = defaultdict(list)
-        # When each was asked for, when its answer came, and the message.
-        self.deliveries: dict[str, list[tuple[float, float, str]]] = defaultdict(list)
-        self.deleted: dict[tuple[str, str], float] = {}
-        self.answers: list[float] = []
-        self.errors: list[str] = []
-        self.sending, self.receiving = True, True
-        jobs: list[tuple[Any, ...]] = [(self.send_fifo, group) for group in "abc"]
-        jobs += [(self.send_standard, f"standard{number}", self.standard) for number in (1, 2)]
-        jobs += [(self.send_standard, f"delayed{number}", self.delayed) for number in (1, 2)]
-        jobs += [(self.send_standard, "large", self.large, 600_000, 0.4), (self.send_standard, "dead", self.source, 0, 0.2)]
-        self.senders = [threading.Thread(target=job, args=words) for job, *words in jobs]
-        queues = [self.fifo, self.standard, self.standard, self.delayed, self.large, self.dead, self.source]
-        self.receivers = [threading.Thread(target=self.receive, args=(queue,)) for queue in queues]
-        for thread in self.senders + self.receivers:
-            thread.start()
-
-    def call(self, action: Callable[[], Any]) -> Any:
-        """The answer, or nothing where none came."""
-        try:
-            answer = action()
-        except UNANSWERED as error:
-            self.errors.append(repr(error))
-            return None
-        self.answers.append(time.monotonic())
-        return answer
-
-    def send_fifo(self, group: str) -> None:
-        """Each message is sent until it is acknowledged, before the next one is."""
-        sqs = self.served.client()
-        for number in itertools.count():
-            body = f"{group}-{number}"
-            while self.sending and not self.call(lambda: sqs.send_message(
-                    QueueUrl=self.fifo, MessageBody=body, MessageGroupId=group, MessageDeduplicationId=body)):
-                time.sleep(0.1)
-            if not self.sending:
-                return
-            self.acknowledged[self.fifo].append(body)
-            time.sleep(0.02)
-
-    def send_standard(self, name: str, queue: str, size: int = 0, pause: float = 0.03) -> None:
-        """Each message is sent once."""
-        sqs = self.served.client()
-        for number in itertools.count():
-            if not self.sending:
-                return
-            body = f"{name}-{number}"
-            if self.call(lambda: sqs.send_message(QueueUrl=queue, MessageBody=whole(body, size))):
-                self.acknowledged[self.dead if queue == self.source else queue].append(body)
-            time.sleep(pause)
-
-    def receive(self, queue: str) -> None:
-        sqs = self.served.client()
-        while self.receiving:
-            asked = time.monotonic()
-            got = self.call(lambda: sqs.receive_message(QueueUrl=queue, MaxNumberOfMessages=10, WaitTimeSeconds=1))
-            answered = time.monotonic()
-            for message in (got or {}).get("Messages", []):
-                if queue == self.source:
-                    continue
-                body = message["Body"].split(" ")[0]
-                assert message["Body"] == whole(body, 600_000 if queue == self.large else 0), f"{body} isn't whole"
-                self.deliveries[queue].append((asked, answered, body))
-                if self.call(lambda: sqs.delete_message(QueueUrl=queue, ReceiptHandle=message["ReceiptHandle"])):
-                    self.deleted.setdefault((queue, body), time.monotonic())
-
-    def goes_on(self, seconds: float = 30) -> None:
-        """Waits for some answers from now on."""
-        now = len(self.answers)
-        wait(seconds, lambda: len(self.answers) > now + 300, f"nobody is answered: {self.errors[-3:]}")
-
-    def longest_silence(self, since: float) -> float:
-        moments = [since, *sorted(one for one in self.answers if one > since)]
-        return max(after - before for before, after in zip(moments, moments[1:]))
-
-    def stop(self) -> None:
-        self.sending = False
-        for thread in self.senders:
-            thread.join(60)
-        try:
-            wait(30 + 2 * TIMEOUT, lambda: not self.missing(), "acknowledged sends are lost")
-            # What was moved or sent twice would come now.
-            time.sleep(1)
-        finally:
-            lost = self.missing()
-            self.receiving = False
-            for thread in self.receivers:
-                thread.join(60)
-            print(f"{len(self.answers)} answers, {len(self.errors)} errors, lost: {lost[:10]}", self.errors[:5])
-        for queue in self.queues:
-            self.check(queue)
-        self.check_order()
-
-    def missing(self) -> list[str]:
-        """What was acknowledged and hasn't come."""
-        came = {queue: {body for _, _, body in self.deliveries[queue]} for queue in self.queues}
-        return [body for queue in self.queues for body in set(self.acknowledged[queue]) - came[queue]]
-
-    def check(self, queue: str) -> None:
-        """No message is delivered again before its timeout is over, nor once its deletion was acknowledged."""
-        moments: dict[str, list[tuple[float, float]]] = defaultdict(list)
-        for asked, answered, body in sorted(self.deliveries[queue], key=lambda one: one[1]):
-            moments[body].append((asked, answered))
-        for body, times in moments.items():
-            # It was handed out some time between the question and the answer, which a front asks for up to 20 s.
-            apart = [after[1] - before[0] for before, after in zip(times, times[1:])]
-            assert all(one > TIMEOUT - 0.1 for one in apart), (body, times)
-            last = max(asked for asked, _ in times)
-            assert last <= self.deleted.get((queue, body), last), f"{body} is there behind its deletion"
-
-    def check_order(self) -> None:
-        first: dict[str, list[int]] = defaultdict(list)
-        seen = set()
-        for _, _, body in self.deliveries[self.fifo]:
-            if body not in seen:
-                seen.add(body)
-                group, number = body.split("-")
-                first[group].append(int(number))
-        for group, numbers in first.items():
-            assert numbers == sorted(numbers), group
 
 
 def gateway_of(served: Served, server: int) -> int:

@@ -4,14 +4,14 @@ schedules played, and HOBBYCHAIR_TEST_FAULTS=N as many runs with faults by seeds
 from __future__ import annotations
 
 import os
-import random
 import signal
 import time
 import urllib.request
 
 import pytest
 
-from clusters import Cluster, has_etcd, wait
+from cluster_faults import Faults, heals
+from clusters import has_etcd, wait
 from test_cluster import SEED, answered, start  # noqa: F401
 
 FAULTS = int(os.environ.get("HOBBYCHAIR_TEST_FAULTS", "0"))
@@ -186,123 +186,6 @@ def test_what_etcd_is_asked_when_nothing_happens(start):
     assert (requests() - before) / 10 < 14
 
 
-class Faults:
-    """Faults by a seed. Two full members at least are never touched at once."""
-
-    def __init__(self, cluster: Cluster, seed: int) -> None:
-        self.cluster, self.random, self.done = cluster, random.Random(seed), []
-        self.later: list[tuple[float, object]] = []
-        self.busy: dict[int, float] = {}
-
-    def good(self) -> list[int]:
-        now = time.monotonic()
-        chain = self.cluster.chain()
-        alive = {node.server for node in self.cluster.nodes if node.look() and node.lives()}
-        return [one for one in chain["members"] if one in chain["full"] and one in alive and self.busy.get(one, 0) < now]
-
-    def note(self, *what) -> None:
-        self.done.append((round(time.monotonic(), 2), *what))
-
-    def after(self, seconds: float, what) -> None:
-        self.later.append((time.monotonic() + seconds, what))
-
-    def due(self) -> None:
-        now = time.monotonic()
-        due, self.later = [one for one in self.later if one[0] <= now], [one for one in self.later if one[0] > now]
-        for _, what in due:
-            what()
-
-    def end(self) -> None:
-        while self.later:
-            self.due()
-            time.sleep(0.05)
-
-    def kill(self) -> None:
-        good = self.good()
-        if len(good) > 1:
-            one = self.random.choice(good)
-            self.note("kill", one)
-            self.cluster.kill(one)
-
-    def stop(self, servers: list[int] | None = None) -> None:
-        good = self.good()
-        if len(good) > 1:
-            seconds = self.random.choice([0.3, 0.8, 1.5, 2.2, 3, 5])
-            for one in servers or [self.random.choice(good)]:
-                self.note("stop", one, seconds)
-                self.busy[one] = time.monotonic() + seconds + 4
-                node = self.cluster.node(one)
-                node.stop()
-                self.after(seconds + self.random.random() * 0.3, lambda node=node: node.lives() and node.go_on())
-
-    def stop_all(self) -> None:
-        if len(self.good()) > 1:
-            self.stop(self.good())
-
-    def cut_from_etcd(self) -> None:
-        good = self.good()
-        if len(good) > 1:
-            one, seconds = self.random.choice(good), self.random.choice([1, 3, 6, 12])
-            self.note("cut from etcd", one, seconds)
-            self.busy[one] = time.monotonic() + seconds + 3
-            proxy = self.cluster.node(one).proxy
-            proxy.cut()
-            self.after(seconds, proxy.mend)
-
-    def condemn(self) -> None:
-        good = self.good()
-        if len(good) > 1 and not self.etcd_is_away():
-            one = self.random.choice(good)
-            self.note("condemn", one)
-            self.busy[one] = time.monotonic() + 5
-            self.cluster.condemn(one)
-
-    def etcd_is_away(self) -> bool:
-        return self.busy.get(0, 0) > time.monotonic()
-
-    def stop_etcd(self) -> None:
-        if not self.etcd_is_away():
-            seconds = self.random.choice([1, 3, 6])
-            self.note("etcd", seconds)
-            self.busy[0] = time.monotonic() + seconds + 1
-            self.cluster.etcd.signal(signal.SIGSTOP)
-            self.after(seconds, lambda: self.cluster.etcd.signal(signal.SIGCONT))
-
-    def kill_master(self) -> None:
-        place = self.random.randrange(len(self.cluster.masters))
-        self.note("master", place)
-        self.cluster.masters[place].kill()
-        self.cluster.start_master()
-        self.cluster.masters[place] = self.cluster.masters.pop()
-
-    def stop_master(self) -> None:
-        master, seconds = self.random.choice(self.cluster.masters), self.random.choice([1, 3, 6])
-        self.note("master stopped", seconds)
-        master.send_signal(signal.SIGSTOP)
-        self.after(seconds, lambda: master.send_signal(signal.SIGCONT))
-
-    def kill_young(self) -> None:
-        chain = self.cluster.chain()
-        young = [node for node in self.cluster.nodes if node.look() and node.lives() and node.server not in chain["full"]]
-        if young:
-            self.note("kill young", young[0].server)
-            young[0].process.kill()
-
-    def one(self) -> None:
-        ways = [self.kill, self.stop, self.stop_all, self.cut_from_etcd, self.condemn, self.stop_etcd, self.kill_master, self.stop_master,
-                self.kill_young]
-        self.random.choices(ways, [8, 7, 2, 5, 4, 3, 3, 2, 2])[0]()
-
-    def population(self, wanted: int) -> None:
-        """A new node for each that is lost."""
-        if self.etcd_is_away():
-            return
-        living = [node for node in self.cluster.nodes if node.lives()]
-        detected = set(self.cluster.detected())
-        if len([node for node in living if not node.look() or node.server not in detected]) < wanted:
-            self.cluster.start_node()
-
-
 @pytest.mark.skipif(FAULTS == 0, reason="HOBBYCHAIR_TEST_FAULTS isn't set")
 @pytest.mark.parametrize("seed", range(SEED, SEED + FAULTS))
 def test_faults_by_a_seed(start, seed):
@@ -327,9 +210,3 @@ def test_faults_by_a_seed(start, seed):
     finally:
         faults.end()
         print(f"seed {seed}: {faults.done}")
-
-
-def heals(cluster: Cluster) -> bool:
-    chain = cluster.chain()
-    living = {node.server for node in cluster.nodes if node.look() and node.lives()}
-    return chain["is_ready"] and len(chain["members"]) >= 3 and set(chain["members"]) <= living and set(chain["members"]) <= set(chain["full"])

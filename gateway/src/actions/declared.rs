@@ -29,8 +29,14 @@ impl Actions {
         let incoming = Incoming { target, path_queue: None, query: "", body: body.as_bytes() };
         let request = Protocol::Json.read(&incoming)?;
         let share = Arc::new(Budget::new(usize::MAX).share());
-        let caller =
-            Caller { base_url: String::new(), presence: Presence::default(), identity: None, call: None, share };
+        let caller = Caller {
+            base_url: String::new(),
+            presence: Presence::default(),
+            identity: None,
+            call: None,
+            asked_before: false,
+            share,
+        };
         self.perform(Box::new(request), &caller).await.map(drop)
     }
 }

@@ -41,6 +41,8 @@ pub struct Caller {
     pub identity: Option<Arc<Identity>>,
     /// What stands for the client's call and its repeats, where that is asked for and can be told.
     pub call: Option<[u8; 32]>,
+    /// A front has asked this before, and got no answer: what is done already isn't an error.
+    pub asked_before: bool,
     /// What it counts for the budget of requests.
     pub share: Arc<Share>,
 }
@@ -199,10 +201,10 @@ impl Actions {
                 self.list_sources(&queue, most, &after, caller)
             }
             Request::PurgeQueue { queue } => self.purge(&queue).await,
-            Request::AddPermission { queue, permission } => self.add_permission(&queue, &permission).await,
-            Request::RemovePermission { queue, label } => self.remove_permission(&queue, &label).await,
+            Request::AddPermission { queue, permission } => self.add_permission(&queue, &permission, caller).await,
+            Request::RemovePermission { queue, label } => self.remove_permission(&queue, &label, caller).await,
             Request::StartMessageMoveTask { start } => self.start_move(start, caller).await,
-            Request::CancelMessageMoveTask { handle } => self.cancel_move(handle.as_ref()).await,
+            Request::CancelMessageMoveTask { handle } => self.cancel_move(handle.as_ref(), caller).await,
             Request::ListMessageMoveTasks { source, most } => self.list_moves(source.as_ref(), most),
         }
     }

@@ -47,7 +47,16 @@ impl Actions {
         let held = self.store.hold(&queue).await?;
         let task = {
             let state = queue.state();
-            if state.running_task().is_some() {
+            let running = state.running_task();
+            let is_this = |task: &&MoveTask| {
+                let starter = caller.identity.as_ref().map(|identity| identity.name());
+                (&task.destination, task.rate, task.starter.as_deref()) == (&destination, start.rate, starter)
+            };
+            if let Some(task) = running.filter(|task| caller.asked_before && is_this(task)) {
+                let handle = TaskHandle { id: task.id, queue: queue.name.clone() };
+                return Ok(Response::TaskHandle(handle.outward()).into());
+            }
+            if running.is_some() {
                 let message = "There is already a task running. Only one active task is allowed for a source queue \
                                arn at a given time.";
                 return Err(SqsError::InvalidParameterValue(message.into()));
@@ -103,12 +112,19 @@ impl Actions {
     }
 
     /// Ends a task that runs, and tells how many messages it has moved.
-    pub(super) async fn cancel_move(&self, handle: Option<&TaskHandle>) -> Result<Performed, SqsError> {
+    pub(super) async fn cancel_move(
+        &self,
+        handle: Option<&TaskHandle>,
+        caller: &Caller,
+    ) -> Result<Performed, SqsError> {
         let no_task = || no_resource("TaskHandle");
         let TaskHandle { id, queue: name } = handle.ok_or_else(no_task)?;
         let _locked = self.lock_of(name).lock().await;
         let queue = self.store.queues().find(name).ok_or_else(no_task)?;
         let mut task = find(&queue, *id).ok_or_else(no_task)?;
+        if caller.asked_before && task.status == Status::Cancelled {
+            return Ok(Response::Moved(task.moved).into());
+        }
         if task.status != Status::Running {
             let message = "Only tasks with the status RUNNING can be cancelled.";
             return Err(SqsError::InvalidParameterValue(message.into()));

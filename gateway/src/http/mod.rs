@@ -97,6 +97,8 @@ struct Call {
     digest: Option<[u8; 32]>,
     /// Up to which moment its answer is wanted, where a front says that.
     until: Option<Moment>,
+    /// A front has asked it before.
+    asked_before: bool,
 }
 
 /// A call of which there may be repeats, and whether it says that it is one.
@@ -237,16 +239,25 @@ impl Connection {
         let (request, request_id) = (Box::new(request), log.request_id);
         let is_of_chain = service.actions.store().is_of_chain();
         let until = is_of_chain.then(|| text_of(&head.headers, &UNTIL)?.parse().ok()).flatten();
-        let mut call =
-            Call { connection: self, protocol, action, request, request_id, identity, base_url, digest: None, until };
+        let asked_before = is_of_chain && head.headers.contains_key(&AGAIN);
+        let digest = None;
+        let mut call = Call {
+            connection: self,
+            protocol,
+            action,
+            request,
+            request_id,
+            identity,
+            base_url,
+            digest,
+            until,
+            asked_before,
+        };
         if call.request.is_deduplicated_by_call() {
             call.digest = call.key(head, body).map(|key| key.0);
         }
         let key = if IdempotencyKey::applies_to(action) { call.key(head, body) } else { None };
-        let is_again = || {
-            let by_front = is_of_chain && head.headers.contains_key(&AGAIN);
-            by_front || text_of(&head.headers, &SDK_REQUEST).is_some_and(is_repeat)
-        };
+        let is_again = || asked_before || text_of(&head.headers, &SDK_REQUEST).is_some_and(is_repeat);
         Ok(Next::Perform(Box::new(call), key.map(|key| Box::new(Repeatable { key, is_again: is_again() }))))
     }
 
@@ -366,8 +377,10 @@ impl Call {
     }
 
     async fn perform(self: Box<Call>, presence: Presence) -> CallResult {
-        let Call { connection, protocol, action, request, request_id, identity, base_url, digest, until } = *self;
-        let caller = Caller { base_url, presence, identity, call: digest, share: connection.share.clone() };
+        let Call { connection, protocol, action, request, request_id, identity, base_url, digest, until, asked_before } =
+            *self;
+        let share = connection.share.clone();
+        let caller = Caller { base_url, presence, identity, call: digest, asked_before, share };
         match wanted_until(until, connection.service.actions.perform(request, &caller)).await {
             Ok(performed) => {
                 let is_worth_keeping = !performed.response.is_empty_receive();

@@ -1,0 +1,371 @@
+"""A cluster that serves SQS, and clients of its fronts that send, receive and delete, whatever is lost meanwhile."""
+
+from __future__ import annotations
+
+import itertools
+import json
+import threading
+import time
+from collections import defaultdict
+from collections.abc import Callable
+from dataclasses import dataclass
+from pathlib import Path
+from typing import Any
+
+import botocore.exceptions
+
+from clusters import NAME, Cluster, wait
+from started import Started, boto3_client
+
+# What a client takes for an answer that didn't come.
+UNANSWERED = (botocore.exceptions.BotoCoreError, botocore.exceptions.ClientError)
+
+# So long a message of the tests is hidden, in seconds.
+TIMEOUT = 6
+
+# What clients and servers may disagree about, in seconds.
+SLACK = 0.1
+
+LARGE = 600_000
+
+
+class Served:
+    """A cluster with fronts, and a client of the first one."""
+
+    def __init__(self, room: Path, size: int = 3, fronts: int = 1, **how: Any) -> None:
+        self.cluster = Cluster(room, size=size, gateways=True, **how)
+        self.fronts: list[Started] = []
+        try:
+            wait(30, lambda: self.cluster.gateway_acts(1), "no gateway acts")
+            for _ in range(fronts):
+                self.fronts.append(Started("--cluster", NAME, "--etcd", ",".join(self.cluster.etcd.urls)))
+        except BaseException:
+            print(self.cluster.said())
+            self.end()
+            raise
+        self.front = self.fronts[0]
+        self.sqs = self.client()
+
+    def client(self, number: int = 0):
+        """Of one of the fronts."""
+        return boto3_client(self.fronts[number % len(self.fronts)].url, read_timeout=60, connect_timeout=5)
+
+    def queue(self, name: str, **attributes: str) -> str:
+        fifo = {"FifoQueue": "true"} if name.endswith(".fifo") else {}
+        return self.sqs.create_queue(QueueName=name, Attributes=fifo | attributes)["QueueUrl"]
+
+    def receive(self, queue: str, **more: Any) -> list[dict[str, Any]]:
+        names = ["All"]
+        return self.sqs.receive_message(QueueUrl=queue, MaxNumberOfMessages=10, AttributeNames=names, **more).get("Messages", [])
+
+    def delete(self, queue: str, message: dict[str, Any]) -> None:
+        self.sqs.delete_message(QueueUrl=queue, ReceiptHandle=message["ReceiptHandle"])
+
+    def counts(self, queue: str) -> list[int]:
+        names = ["ApproximateNumberOfMessages", "ApproximateNumberOfMessagesNotVisible", "ApproximateNumberOfMessagesDelayed"]
+        got = self.sqs.get_queue_attributes(QueueUrl=queue, AttributeNames=names)["Attributes"]
+        return [int(got[name]) for name in names]
+
+    def end(self) -> None:
+        for front in self.fronts:
+            front.kill()
+        self.cluster.end()
+
+
+def whole(body: str, size: int) -> str:
+    """A body that begins so, and has so many bytes more."""
+    return f"{body} {body * (size // len(body))}" if size else body
+
+
+def arn(name: str) -> str:
+    return f"arn:aws:sqs:us-east-1:000000000000:{name}"
+
+
+@dataclass
+class Delivery:
+    """A message that was received: it was handed out some time between the question and the answer, which a front asks for up
+    to 20 s."""
+
+    asked: float
+    answered: float
+    body: str
+
+
+class Work:
+    """Clients that send, receive and delete until they are stopped."""
+
+    def __init__(self, served: Served) -> None:
+        self.served = served
+        self.fifo = served.queue("work.fifo", VisibilityTimeout=str(TIMEOUT))
+        self.standard = served.queue("work", VisibilityTimeout=str(TIMEOUT))
+        self.delayed = served.queue("delayed", VisibilityTimeout=str(TIMEOUT), DelaySeconds="2")
+        self.large = served.queue("large", VisibilityTimeout=str(TIMEOUT))
+        # What is received of the one, and never deleted, comes to the other.
+        self.dead = served.queue("dead", VisibilityTimeout=str(TIMEOUT))
+        self.source = served.queue("source", VisibilityTimeout="1", RedrivePolicy=self.policy("dead"))
+        # What is sent to the one goes to the other by tasks.
+        self.shelf = served.queue("shelf", VisibilityTimeout=str(TIMEOUT))
+        served.queue("of-shelf", RedrivePolicy=self.policy("shelf"))
+        self.moved = served.queue("moved", VisibilityTimeout=str(TIMEOUT))
+        self.purged = served.queue("purged", VisibilityTimeout=str(TIMEOUT))
+        self.queues = (self.fifo, self.standard, self.delayed, self.large, self.dead, self.moved, self.purged)
+        self.acknowledged: dict[str, list[str]] = defaultdict(list)
+        self.deliveries: dict[str, list[Delivery]] = defaultdict(list)
+        # When the deletion of each was asked for first, and when it was acknowledged.
+        self.deleting: dict[tuple[str, str], float] = {}
+        self.deleted: dict[tuple[str, str], float] = {}
+        # When the sends to the queue that is purged were acknowledged, and when the purge was asked for and acknowledged.
+        self.to_purge: dict[str, float] = {}
+        self.purge: tuple[float, float] | None = None
+        self.answers: list[float] = []
+        self.errors: list[str] = []
+        self.wrong: list[str] = []
+        self.sending, self.receiving = True, True
+        jobs: list[tuple[Any, ...]] = [(self.send_fifo, group) for group in "abc"]
+        jobs += [(self.send_standard, f"standard{number}", self.standard) for number in (1, 2)]
+        jobs += [(self.send_standard, f"delayed{number}", self.delayed) for number in (1, 2)]
+        jobs += [(self.send_standard, "large", self.large, LARGE, 0.4), (self.send_standard, "dead", self.source, 0, 0.2)]
+        jobs += [(self.send_standard, "moved", self.shelf, 0, 0.2), (self.send_and_purge,), (self.make_and_remove,)]
+        self.senders = [threading.Thread(target=self.run, args=job) for job in jobs]
+        queues = [self.fifo, self.fifo, *self.queues[1:], self.source]
+        self.receivers = [threading.Thread(target=self.run, args=(self.receive, queue, place)) for place, queue in enumerate(queues)]
+        self.receivers.append(threading.Thread(target=self.run, args=(self.move,)))
+        for thread in self.senders + self.receivers:
+            thread.start()
+
+    @staticmethod
+    def policy(name: str) -> str:
+        return json.dumps({"deadLetterTargetArn": arn(name), "maxReceiveCount": 1})
+
+    def run(self, job: Callable[..., None], *words: Any) -> None:
+        """What is found wrong is told at the end."""
+        try:
+            job(*words)
+        except BaseException as error:
+            self.wrong.append(f"{job.__name__}: {error!r}")
+
+    def call(self, action: Callable[[], Any]) -> Any:
+        """The answer, or nothing where none came."""
+        try:
+            answer = action()
+        except UNANSWERED as error:
+            self.errors.append(repr(error))
+            return None
+        self.answers.append(time.monotonic())
+        return answer
+
+    # ---- senders
+
+    def send_fifo(self, group: str) -> None:
+        """Each message is sent until it is acknowledged, before the next one is; some are sent once more."""
+        for number in itertools.count():
+            sqs = self.served.client(number)
+            body = f"{group}-{number}"
+
+            def send() -> Any:
+                return sqs.send_message(QueueUrl=self.fifo, MessageBody=body, MessageGroupId=group, MessageDeduplicationId=body)
+
+            while self.sending and not (sent := self.call(send)):
+                time.sleep(0.1)
+            if not self.sending:
+                return
+            self.acknowledged[self.fifo].append(body)
+            again = self.call(send) if number % 10 == 0 else None
+            if again:
+                assert again["MessageId"] == sent["MessageId"], f"{body} was sent twice, as {sent} and {again}"
+            time.sleep(0.02)
+
+    def send_standard(self, name: str, queue: str, size: int = 0, pause: float = 0.03) -> None:
+        """Each message is sent once."""
+        goal = {self.source: self.dead, self.shelf: self.moved}.get(queue, queue)
+        for number in itertools.count():
+            if not self.sending:
+                return
+            body = f"{name}-{number}"
+            if self.call(lambda: self.served.client(number).send_message(QueueUrl=queue, MessageBody=whole(body, size))):
+                self.acknowledged[goal].append(body)
+            time.sleep(pause)
+
+    def send_and_purge(self) -> None:
+        """The queue is purged once, in the middle of sends."""
+        sqs = self.served.client()
+        for number in itertools.count():
+            if not self.sending:
+                return
+            body = f"purged-{number}"
+            if self.call(lambda: sqs.send_message(QueueUrl=self.purged, MessageBody=body)):
+                self.to_purge[body] = time.monotonic()
+                if self.purge:
+                    self.acknowledged[self.purged].append(body)
+            if number == 40:
+                asked = time.monotonic()
+                # Where an answer was lost, a second purge is refused, since the first one was done.
+                while not self.call(lambda: sqs.purge_queue(QueueUrl=self.purged)) and "PurgeQueueInProgress" not in self.errors[-1]:
+                    time.sleep(0.2)
+                self.purge = (asked, time.monotonic())
+            time.sleep(0.1)
+
+    def make_and_remove(self) -> None:
+        """Both fronts make a queue of one name at once; what is sent by one comes by the other; then it is removed."""
+        clients = [self.served.client(0), self.served.client(1)]
+        for number in itertools.count():
+            if not self.sending:
+                return
+            name = f"made-{number}"
+            made: list[str] = []
+
+            def make(sqs: Any) -> None:
+                while not (answer := self.call(lambda: sqs.create_queue(QueueName=name))):
+                    time.sleep(0.1)
+                made.append(answer["QueueUrl"].rsplit("/", 1)[1])
+
+            threads = [threading.Thread(target=self.run, args=(make, sqs)) for sqs in clients]
+            for thread in threads:
+                thread.start()
+            for thread in threads:
+                thread.join()
+            assert made == [name, name], made
+            urls = [f"{front.url}/000000000000/{name}" for front in (self.served.fronts[0], self.served.fronts[-1])]
+            if self.call(lambda: clients[0].send_message(QueueUrl=urls[0], MessageBody=name)):
+                got = None
+                while not got:
+                    got = (self.call(lambda: clients[1].receive_message(QueueUrl=urls[1], WaitTimeSeconds=2)) or {}).get("Messages")
+                assert got[0]["Body"] == name
+            while not self.call(lambda: clients[1].delete_queue(QueueUrl=urls[1])) and "NonExistentQueue" not in self.errors[-1]:
+                time.sleep(0.1)
+            while not self.is_gone(clients[0], name):
+                time.sleep(0.1)
+            time.sleep(0.3)
+
+    def is_gone(self, sqs: Any, name: str) -> bool:
+        """Whether nobody finds that queue, as is said; nothing is known where no answer comes."""
+        try:
+            sqs.get_queue_url(QueueName=name)
+        except sqs.exceptions.QueueDoesNotExist:
+            return True
+        except UNANSWERED as error:
+            self.errors.append(repr(error))
+            return False
+        raise AssertionError(f"{name} is there behind its removal")
+
+    # ---- receivers
+
+    def receive(self, queue: str, place: int) -> None:
+        sqs = self.served.client(place)
+        while self.receiving:
+            asked = time.monotonic()
+            got = self.call(lambda: sqs.receive_message(QueueUrl=queue, MaxNumberOfMessages=10, WaitTimeSeconds=1))
+            answered = time.monotonic()
+            for message in (got or {}).get("Messages", []):
+                if queue == self.source:
+                    continue
+                body = message["Body"].split(" ")[0]
+                assert message["Body"] == whole(body, LARGE if queue == self.large else 0), f"{body} isn't whole"
+                self.deliveries[queue].append(Delivery(asked, answered, body))
+            for message in (got or {}).get("Messages", []):
+                if queue != self.source:
+                    self.delete(sqs, queue, message)
+
+    def delete(self, sqs: Any, queue: str, message: dict[str, Any]) -> None:
+        key = (queue, message["Body"].split(" ")[0])
+        self.deleting.setdefault(key, time.monotonic())
+        if self.call(lambda: sqs.delete_message(QueueUrl=queue, ReceiptHandle=message["ReceiptHandle"])):
+            self.deleted.setdefault(key, time.monotonic())
+
+    def move(self) -> None:
+        """Starts a task whenever none runs."""
+        sqs = self.served.client(1)
+        while self.receiving:
+            started = self.call(lambda: sqs.start_message_move_task(SourceArn=arn("shelf"), DestinationArn=arn("moved")))
+            time.sleep(1 if started else 0.3)
+
+    # ---- what has to hold
+
+    def goes_on(self, seconds: float = 30) -> None:
+        """Waits for some answers from now on."""
+        now = len(self.answers)
+        wait(seconds, lambda: len(self.answers) > now + 300, f"nobody is answered: {self.errors[-3:]}")
+
+    def longest_silence(self, since: float) -> float:
+        moments = [since, *sorted(one for one in self.answers if one > since)]
+        return max(after - before for before, after in zip(moments, moments[1:]))
+
+    def stop(self) -> None:
+        self.sending = False
+        for thread in self.senders:
+            thread.join(60)
+        try:
+            wait(30 + 2 * TIMEOUT, lambda: not self.missing(), "acknowledged sends are lost")
+            # What was moved or sent twice would come now.
+            time.sleep(1)
+        finally:
+            lost = self.missing()
+            self.receiving = False
+            for thread in self.receivers:
+                thread.join(60)
+            print(f"{len(self.answers)} answers, {len(self.errors)} errors, lost: {lost[:10]}", self.errors[:5])
+        assert not self.wrong, self.wrong
+        for queue in self.queues:
+            self.check(queue)
+        self.check_order()
+        self.check_groups()
+        self.check_purge()
+
+    def missing(self) -> list[str]:
+        """What was acknowledged and hasn't come."""
+        came = {queue: {one.body for one in list(self.deliveries[queue])} for queue in self.queues}
+        return [body for queue in self.queues for body in set(self.acknowledged[queue]) - came[queue]]
+
+    def check(self, queue: str) -> None:
+        """No message is delivered again before its timeout is over, nor once its deletion was acknowledged."""
+        moments: dict[str, list[Delivery]] = defaultdict(list)
+        for one in sorted(self.deliveries[queue], key=lambda one: one.answered):
+            moments[one.body].append(one)
+        for body, times in moments.items():
+            apart = [after.answered - before.asked for before, after in zip(times, times[1:])]
+            assert all(one > TIMEOUT - SLACK for one in apart), (queue, body, times)
+            last = max(one.asked for one in times)
+            assert last <= self.deleted.get((queue, body), last), f"{body} is there behind its deletion: {times}"
+
+    def check_order(self) -> None:
+        """First deliveries of a group come in the order of the sends."""
+        first: dict[str, Delivery] = {}
+        for one in self.deliveries[self.fifo]:
+            if one.body not in first or one.answered < first[one.body].answered:
+                first[one.body] = one
+        by_group: dict[str, list[tuple[int, Delivery]]] = defaultdict(list)
+        for body, one in first.items():
+            group, number = body.split("-")
+            by_group[group].append((int(number), one))
+        for group, found in by_group.items():
+            found.sort(key=lambda one: one[0])
+            for (_, before), (number, after) in zip(found, found[1:]):
+                assert before.asked <= after.answered, f"{group}-{number} came before an earlier one"
+
+    def check_groups(self) -> None:
+        """While one of a group is in flight no other receive is given one of it."""
+        by_group: dict[str, list[Delivery]] = defaultdict(list)
+        for one in self.deliveries[self.fifo]:
+            by_group[one.body.split("-")[0]].append(one)
+
+        def end(one: Delivery) -> float:
+            """It is in flight at least until then, if it was handed out as late as that may be."""
+            return min(one.asked + TIMEOUT - SLACK, self.deleting.get((self.fifo, one.body), float("inf")))
+
+        for found in by_group.values():
+            found.sort(key=lambda one: one.asked)
+            for place, one in enumerate(found):
+                for other in found[place + 1 :]:
+                    if other.asked > one.answered + TIMEOUT:
+                        break
+                    is_one_call = (one.asked, one.answered) == (other.asked, other.answered)
+                    # One of them was handed out behind the other's end.
+                    assert is_one_call or other.answered >= end(one) or one.answered >= end(other), (one, other)
+
+    def check_purge(self) -> None:
+        """What was there before a purge isn't there behind it."""
+        if self.purge:
+            asked, done = self.purge
+            for one in self.deliveries[self.purged]:
+                sent = self.to_purge.get(one.body)
+                assert sent is None or sent > asked or one.asked < done, f"{one.body} is there behind a purge"
