@@ -1,6 +1,7 @@
 //! What operators are told, on an address of their own: `/health`, `/metrics`, and messages where that was asked for.
 
 use std::convert::Infallible;
+use std::future::Future;
 use std::sync::atomic::{AtomicU64, AtomicU8, Ordering};
 use std::sync::{Arc, OnceLock};
 use std::time::Duration;
@@ -70,53 +71,66 @@ impl Health {
 pub struct Admin {
     pub health: Arc<Health>,
     pub metrics: Arc<Metrics>,
-    /// The names by which operators of this machine reach it.
-    pub hosts: Hosts,
     /// Where messages may be looked at.
     pub peeks: Option<Peeks>,
     /// There once the journal is replayed.
     pub store: OnceLock<Store>,
 }
 
+/// Serves operators for as long as the process lives, so many connections at once. More wait until these have ended. `answer` tells
+/// the answer to a request, and what that counts, if it does.
+pub async fn serve_operators<F, A>(listener: TcpListener, most: u32, hosts: Hosts, answer: F)
+where
+    F: Fn(Request<Body>) -> A + Clone + Send + Sync + 'static,
+    A: Future<Output = (Response<Bytes>, Option<Arc<Share>>)> + Send,
+{
+    let places = Arc::new(Semaphore::new(most as usize));
+    // What other machines reach is read by them without a browser's help.
+    let is_near = listener.local_addr().map_or(true, |address| is_of_this_machine(address.ip()));
+    let hosts = Arc::new(hosts);
+    while let Ok(place) = places.clone().acquire_owned().await {
+        let Ok((stream, _)) = listener.accept().await else {
+            tokio::time::sleep(PAUSE).await;
+            continue;
+        };
+        let (hosts, answer) = (hosts.clone(), answer.clone());
+        let progress = Progress::new(LONGEST_REQUEST).with_idle(LONGEST_IDLE);
+        let stream = Watched::new(stream, progress.clone());
+        let handle = service_fn(move |request: Request<Body>| {
+            let (hosts, answer, progress) = (hosts.clone(), answer.clone(), progress.clone());
+            async move {
+                progress.is_read();
+                let (response, share) = match hosts.test(request.uri(), request.headers()) {
+                    Err(error) if is_near => (text(StatusCode::FORBIDDEN, format!("{error}\n")), None),
+                    _ => answer(request).await,
+                };
+                progress.answers(response.body().len() as u64);
+                Ok::<_, Infallible>(match share {
+                    Some(share) => to_be_written(response, &share),
+                    None => response.map(Body::from),
+                })
+            }
+        });
+        let mut http = Http::new();
+        http.http1_only(true).max_buf_size(LONGEST_HEAD);
+        let connection = http.serve_connection(stream, handle);
+        tokio::spawn(async move {
+            let _place = place;
+            if let Err(error) = connection.await {
+                tracing::debug!("an operator's connection ended: {error}");
+            }
+        });
+    }
+}
+
 impl Admin {
-    /// Serves for as long as the process lives, so many connections at once. More wait until these have ended.
-    pub async fn serve(self: Arc<Admin>, listener: TcpListener, most: u32) {
-        let places = Arc::new(Semaphore::new(most as usize));
-        // What other machines reach is read by them without a browser's help.
-        let is_near = listener.local_addr().map_or(true, |address| is_of_this_machine(address.ip()));
-        while let Ok(place) = places.clone().acquire_owned().await {
-            let Ok((stream, _)) = listener.accept().await else {
-                tokio::time::sleep(PAUSE).await;
-                continue;
-            };
+    /// Serves for as long as the process lives, so many connections at once.
+    pub async fn serve(self: Arc<Admin>, listener: TcpListener, most: u32, hosts: Hosts) {
+        let answer = move |request: Request<Body>| {
             let admin = self.clone();
-            let progress = Progress::new(LONGEST_REQUEST).with_idle(LONGEST_IDLE);
-            let stream = Watched::new(stream, progress.clone());
-            let handle = service_fn(move |request| {
-                let (admin, progress) = (admin.clone(), progress.clone());
-                async move {
-                    progress.is_read();
-                    let (response, share) = match admin.hosts.test(request.uri(), request.headers()) {
-                        Err(error) if is_near => (text(StatusCode::FORBIDDEN, format!("{error}\n")), None),
-                        _ => admin.answer(&request).await,
-                    };
-                    progress.answers(response.body().len() as u64);
-                    Ok::<_, Infallible>(match share {
-                        Some(share) => to_be_written(response, &share),
-                        None => response.map(Body::from),
-                    })
-                }
-            });
-            let mut http = Http::new();
-            http.http1_only(true).max_buf_size(LONGEST_HEAD);
-            let connection = http.serve_connection(stream, handle);
-            tokio::spawn(async move {
-                let _place = place;
-                if let Err(error) = connection.await {
-                    tracing::debug!("an operator's connection ended: {error}");
-                }
-            });
-        }
+            async move { admin.answer(&request).await }
+        };
+        serve_operators(listener, most, hosts, answer).await;
     }
 
     /// The answer to a request, and what it counts, if it does.
@@ -196,7 +210,8 @@ async fn counts(store: &Store) -> Vec<Counts> {
     counts
 }
 
-fn text(status: StatusCode, told: String) -> Response<Bytes> {
+/// An answer in plain text.
+pub fn text(status: StatusCode, told: String) -> Response<Bytes> {
     let mut response = Response::new(Bytes::from(told));
     *response.status_mut() = status;
     response.headers_mut().insert(CONTENT_TYPE, HeaderValue::from_static("text/plain; charset=utf-8"));

@@ -417,11 +417,12 @@ impl Options {
             open: self.open.unwrap_or(false),
             connections: between("connections", self.connections.unwrap_or(CONNECTIONS), 1, MOST_CONNECTIONS)?,
             request_memory: request_memory(self.request_memory)?,
+            admin: self.admin.clone(),
         }))
     }
 
     /// The options that a front has no use for, and whether they are given.
-    fn of_gateways(&self) -> [(&'static str, bool); 16] {
+    fn of_gateways(&self) -> [(&'static str, bool); 15] {
         [
             ("shards", self.shards.is_some()),
             ("journal", self.journal.is_some()),
@@ -436,7 +437,6 @@ impl Options {
             ("region", self.region.is_some()),
             ("polls", self.polls.is_some()),
             ("no-pauses", self.no_pauses.is_some()),
-            ("admin", self.admin.is_some()),
             ("peek", self.peek.is_some()),
             ("[[queue]]", !self.queue.is_empty()),
         ]

@@ -11,7 +11,7 @@ use crate::store::Figures;
 use crate::wire::requests::Action;
 
 /// Bounds of the histogram of latencies, in seconds. Long polls take up to 20.
-const SECONDS: [f64; 14] = [0.0005, 0.001, 0.0025, 0.005, 0.01, 0.025, 0.05, 0.1, 0.25, 0.5, 1.0, 5.0, 10.0, 20.0];
+pub const SECONDS: [f64; 14] = [0.0005, 0.001, 0.0025, 0.005, 0.01, 0.025, 0.05, 0.1, 0.25, 0.5, 1.0, 5.0, 10.0, 20.0];
 
 /// The metrics of a gateway.
 pub struct Metrics {

@@ -147,14 +147,13 @@ async fn prepare(settings: Arc<Settings>) -> Result<Prepared> {
     let admin = Arc::new(Admin {
         health: Arc::new(Health::default()),
         metrics: Arc::new(Metrics::new()?),
-        hosts: settings.hosts(),
         peeks: settings.peek.then(|| Peeks::new(settings.owner.clone())),
         store: OnceLock::new(),
     });
     // Another gateway of this machine may serve operators by now.
     if let Some(address) = settings.admin.as_ref().filter(|_| !settings.only_prepares) {
         let listener = listen_for_operators(address)?;
-        tokio::spawn(admin.clone().serve(listener, places.operators));
+        tokio::spawn(admin.clone().serve(listener, places.operators, settings.hosts()));
     }
     Ok(Prepared { entrance, places, admin })
 }
@@ -216,7 +215,8 @@ fn log_read_again(what: &str, read: Option<Result<()>>) {
     }
 }
 
-fn listen_for_operators(address: &Address) -> Result<TcpListener> {
+/// Takes the operators' address, and says where that is.
+pub fn listen_for_operators(address: &Address) -> Result<TcpListener> {
     let Address { host, port } = address;
     let listener = listen(host, *port).with_context(|| format!("can't listen on {host}:{port} for operators"))?;
     say(&format!("health and metrics on http://{}", listener.local_addr()?));

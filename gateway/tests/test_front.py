@@ -83,7 +83,7 @@ class World:
 
     names = (f"front-{number}" for number in itertools.count())
 
-    def __init__(self, etcd: Etcd) -> None:
+    def __init__(self, etcd: Etcd, *words: str) -> None:
         self.etcd, name = etcd, next(self.names)
         made = run("cluster", "create", "--cluster", name, "--etcd", etcd.urls[0], "--nodes", "2")
         assert made.returncode == 0, made.stderr
@@ -92,7 +92,7 @@ class World:
         self.gateways = [Acting("one"), Acting("two")]
         for server, gateway in enumerate(self.gateways, 1):
             self.register(server, gateway.port)
-        self.front = Started("--cluster", name, "--etcd", etcd.urls[0])
+        self.front = Started("--cluster", name, "--etcd", etcd.urls[0], *words)
 
     def register(self, server: int, port: int | None) -> None:
         value = {"nonce": "n", "address": "127.0.0.1:1"} | ({"gateway": f"127.0.0.1:{port}"} if port else {})
@@ -146,6 +146,29 @@ def test_a_request_goes_to_the_gateway_of_the_head_as_it_is(world):
     assert world.gateways[0].asked()[1][2]["amz-sdk-invocation-id"] == "call"
     # The time was asked for once.
     assert len(world.gateways[0].heard) == 3
+
+
+def test_operators_are_told_how_a_front_is(etcd):
+    world = World(etcd, "--admin", "0")
+    try:
+        url = next(line.split()[-1] for line in world.front.said if line.startswith("health and metrics on "))
+
+        def get(path: str) -> tuple[int, str]:
+            connection = http.client.HTTPConnection(url.removeprefix("http://"), timeout=10)
+            connection.request("GET", path)
+            answer = connection.getresponse()
+            return answer.status, answer.read().decode()
+
+        wait(10, lambda: get("/health") == (200, "serving by the gateway of server 1\n"), "it isn't well")
+        world.ask()
+        lines = get("/metrics")[1].splitlines()
+        assert {'hobbychair_front_requests_total{status="200"} 1', "hobbychair_front_open_requests 0", "hobbychair_front_acting_server 1"} <= set(lines)
+        # The next head has no gateway.
+        world.register(3, None)
+        world.head(3)
+        wait(10, lambda: get("/health")[0] == 503, "it is well")
+    finally:
+        world.end()
 
 
 def test_a_large_answer_comes_whole(world):

@@ -1,6 +1,7 @@
 //! A front of a cluster: it passes requests on to the gateway that acts, and keeps no state (docs/CLUSTER.md, "Fronts").
 
 mod headers;
+mod operators;
 mod passing;
 mod times;
 
@@ -22,15 +23,17 @@ use tokio::sync::Semaphore;
 use tokio::time::{timeout, Instant};
 use uuid::Uuid;
 
+use crate::admin::serve_operators;
 use crate::budget::{Budget, Share};
-use crate::config::Misuse;
+use crate::config::{Address, Misuse};
 use crate::ending::{End, Ending};
 use crate::errors::SqsError;
-use crate::http::{bodies, is_of_this_machine, listen, protocol_of, refused, to_be_written, Places};
+use crate::http::{bodies, is_of_this_machine, listen, protocol_of, refused, to_be_written, Hosts, Places};
 use crate::http::{Progress, Watched, LONGEST_HEAD};
-use crate::serve::{notify_supervisor, say};
+use crate::serve::{listen_for_operators, notify_supervisor, say};
 
 use self::headers::Asked;
+use self::operators::{Figures, Operators};
 use self::passing::Passing;
 
 /// A request is whole so long after its first byte.
@@ -55,6 +58,8 @@ pub struct Settings {
     pub connections: u32,
     /// So many bytes may be kept by all requests that are being passed on.
     pub request_memory: usize,
+    /// Where operators are told how it is.
+    pub admin: Option<Address>,
 }
 
 /// Passes requests on until a signal comes. An error says why it couldn't begin.
@@ -69,8 +74,16 @@ pub async fn serve(settings: Settings) -> Result<()> {
         return Err(Misuse(format!("{host}: {why}")).into());
     }
     let places = Places::for_front(settings.connections)?;
+    let figures = Arc::new(Figures::new()?);
+    let operators = settings.admin.as_ref().map(listen_for_operators).transpose()?;
     let follower = Follower::begin(&settings.cluster, &settings.etcd).await?;
-    let front = Arc::new(Front { passing: Passing::new(follower), budget: Budget::new(settings.request_memory) });
+    if let Some(listener) = operators {
+        let told = Operators { figures: figures.clone(), follower: follower.clone() };
+        let answer = move |request| std::future::ready((told.answer(&request), None));
+        tokio::spawn(serve_operators(listener, places.operators, Hosts::new(&[], None), answer));
+    }
+    let passing = Passing::new(follower, figures.clone());
+    let front = Arc::new(Front { passing, figures, budget: Budget::new(settings.request_memory) });
     let (end, ending) = End::new();
     let mut served = tokio::spawn(front.serve(listener, places.served, ending));
     notify_supervisor(sd_notify::NotifyState::Ready);
@@ -92,6 +105,7 @@ pub async fn serve(settings: Settings) -> Result<()> {
 /// What all connections share.
 struct Front {
     passing: Passing,
+    figures: Arc<Figures>,
     budget: Budget,
 }
 
@@ -158,11 +172,13 @@ impl Front {
 impl Visit {
     /// Answers a request. Where its client goes, what is asked for is given up.
     async fn handle(self: Arc<Visit>, request: Request<Body>) -> io::Result<Response<Body>> {
+        let (arrived, _open) = (Instant::now(), self.front.figures.passes());
         let mut response = tokio::select! {
             biased;
             response = self.answer(request) => response,
             () = self.progress.leaves() => return Err(io::ErrorKind::ConnectionAborted.into()),
         };
+        self.front.figures.answered(response.status(), arrived.elapsed());
         if self.progress.answers(response.body().len() as u64) {
             response.headers_mut().insert(CONNECTION, HeaderValue::from_static("close"));
         }

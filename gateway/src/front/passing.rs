@@ -3,6 +3,7 @@
 //! A request is asked at the gateway that acts, and again at the next one where no answer comes. All tries have the same call
 //! and the same end, so that a gateway that wakes up late asks the store for nothing that was answered otherwise.
 
+use std::sync::Arc;
 use std::time::Duration;
 
 use bytes::{Bytes, BytesMut};
@@ -18,6 +19,7 @@ use crate::budget::Share;
 use crate::errors::SqsError;
 
 use super::headers::{as_answered, time_of, Asked, Try};
+use super::operators::Figures;
 use super::times::{milliseconds, Times};
 
 /// A request is asked again until so long after it came.
@@ -72,18 +74,19 @@ pub struct Passing {
     follower: Follower,
     client: Client<HttpConnector, Body>,
     times: Times,
+    figures: Arc<Figures>,
     /// Held by the one who asks for the time.
     asking: Mutex<()>,
 }
 
 impl Passing {
-    pub fn new(follower: Follower) -> Passing {
+    pub fn new(follower: Follower, figures: Arc<Figures>) -> Passing {
         let mut connector = HttpConnector::new();
         connector.set_nodelay(true);
         connector.set_connect_timeout(Some(CONNECTING));
         // What a client doesn't say of the host, nobody says in its place.
         let client = Client::builder().set_host(false).pool_idle_timeout(IDLE).build(connector);
-        Passing { follower, client, times: Times::default(), asking: Mutex::default() }
+        Passing { follower, client, times: Times::default(), figures, asking: Mutex::default() }
     }
 
     /// The answer of a gateway that acts, to a request that came at that moment.
@@ -104,6 +107,7 @@ impl Passing {
                     Err(why) => tracing::debug!(server = acting.server, "a request is to be asked again: {why}"),
                 }
                 is_again = true;
+                self.figures.is_asked_again();
                 self.follower.look();
             }
             let again = if acting.is_some() { Instant::now() + PAUSE } else { last };

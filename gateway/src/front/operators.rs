@@ -1,0 +1,160 @@
+//! What operators are told of a front, on an address of their own: `/health` and `/metrics`.
+
+use std::sync::Arc;
+use std::time::Duration;
+
+use bytes::Bytes;
+use hobbychair_cluster::acting::Follower;
+use hyper::header::{HeaderValue, CONTENT_TYPE};
+use hyper::{Body, Method, Request, Response, StatusCode};
+use prometheus::{Encoder, Histogram, HistogramOpts, IntCounter, IntCounterVec, IntGauge, Opts, Registry, TextEncoder};
+
+use crate::admin::text;
+use crate::metrics::{Metrics, SECONDS};
+
+/// The metrics of a front.
+pub struct Figures {
+    registry: Registry,
+    answered: IntCounterVec,
+    seconds: Histogram,
+    again: IntCounter,
+    open: IntGauge,
+    acting: IntGauge,
+}
+
+impl Figures {
+    pub fn new() -> prometheus::Result<Figures> {
+        let registry = Registry::new();
+        let answered = Opts::new("hobbychair_front_requests_total", "Requests answered, by HTTP status.");
+        let seconds = "From a request's arrival to its answer, whatever was asked again. Long polls count their wait.";
+        let seconds =
+            HistogramOpts::new("hobbychair_front_request_duration_seconds", seconds).buckets(SECONDS.to_vec());
+        let figures = Figures {
+            answered: IntCounterVec::new(answered, &["status"])?,
+            seconds: Histogram::with_opts(seconds)?,
+            again: IntCounter::new(
+                "hobbychair_front_again_total",
+                "Tries that came to nothing, and were followed by another.",
+            )?,
+            open: IntGauge::new("hobbychair_front_open_requests", "Requests that are being passed on.")?,
+            acting: IntGauge::new(
+                "hobbychair_front_acting_server",
+                "The server whose gateway acts; 0 where none is known.",
+            )?,
+            registry,
+        };
+        figures.registry.register(Box::new(figures.answered.clone()))?;
+        figures.registry.register(Box::new(figures.seconds.clone()))?;
+        figures.registry.register(Box::new(figures.again.clone()))?;
+        figures.registry.register(Box::new(figures.open.clone()))?;
+        figures.registry.register(Box::new(figures.acting.clone()))?;
+        Ok(figures)
+    }
+
+    /// Counts a request as open for as long as this is kept.
+    pub fn passes(&self) -> Open {
+        self.open.inc();
+        Open(self.open.clone())
+    }
+
+    /// A try came to nothing.
+    pub fn is_asked_again(&self) {
+        self.again.inc();
+    }
+
+    pub fn answered(&self, status: StatusCode, time: Duration) {
+        self.answered.with_label_values(&[status.as_str()]).inc();
+        self.seconds.observe(time.as_secs_f64());
+    }
+
+    fn text(&self, acting: u32) -> prometheus::Result<Vec<u8>> {
+        self.acting.set(acting.into());
+        let mut out = Vec::new();
+        TextEncoder::new().encode(&self.registry.gather(), &mut out)?;
+        Ok(out)
+    }
+}
+
+/// A request that is being passed on.
+pub struct Open(IntGauge);
+
+impl Drop for Open {
+    fn drop(&mut self) {
+        self.0.dec();
+    }
+}
+
+/// What the paths tell of.
+#[derive(Clone)]
+pub struct Operators {
+    pub figures: Arc<Figures>,
+    pub follower: Follower,
+}
+
+impl Operators {
+    /// `/health` is good where it is known which gateway acts.
+    pub fn answer(&self, request: &Request<Body>) -> Response<Bytes> {
+        if !matches!(*request.method(), Method::GET | Method::HEAD) {
+            return text(StatusCode::METHOD_NOT_ALLOWED, "There is only GET here.\n".into());
+        }
+        let acting = self.follower.acting().map_or(0, |acting| acting.server);
+        match request.uri().path() {
+            "/health" if acting > 0 => text(StatusCode::OK, format!("serving by the gateway of server {acting}\n")),
+            "/health" => text(StatusCode::SERVICE_UNAVAILABLE, "waiting: no gateway of the cluster is known\n".into()),
+            "/metrics" => self.metrics(acting),
+            _ => text(StatusCode::NOT_FOUND, "There are /health and /metrics here.\n".into()),
+        }
+    }
+
+    fn metrics(&self, acting: u32) -> Response<Bytes> {
+        match self.figures.text(acting) {
+            Ok(told) => {
+                let mut response = Response::new(Bytes::from(told));
+                let content_type = HeaderValue::from_static(Metrics::content_type());
+                response.headers_mut().insert(CONTENT_TYPE, content_type);
+                response
+            }
+            Err(error) => text(StatusCode::INTERNAL_SERVER_ERROR, format!("{error}\n")),
+        }
+    }
+}
+
+#[cfg(test)]
+mod tests {
+    use hobbychair_cluster::acting::Acting;
+
+    use super::*;
+
+    fn get(operators: &Operators, path: &str) -> (u16, String) {
+        let request = Request::get(path).body(Body::empty()).unwrap();
+        let response = operators.answer(&request);
+        (response.status().as_u16(), String::from_utf8(response.body().to_vec()).unwrap())
+    }
+
+    #[test]
+    fn a_front_is_well_where_a_gateway_acts_and_its_requests_are_counted() {
+        let (tell, follower) = Follower::for_tests();
+        let operators = Operators { figures: Arc::new(Figures::new().unwrap()), follower };
+        assert_eq!(get(&operators, "/health").0, 503);
+        tell.send_replace(Some(Acting { server: 3, address: "127.0.0.1:9".parse().unwrap() }));
+        assert_eq!(get(&operators, "/health"), (200, "serving by the gateway of server 3\n".into()));
+        let open = operators.figures.passes();
+        operators.figures.is_asked_again();
+        operators.figures.answered(StatusCode::OK, Duration::from_millis(3));
+        let (status, told) = get(&operators, "/metrics");
+        assert_eq!(status, 200);
+        for line in [
+            "hobbychair_front_requests_total{status=\"200\"} 1",
+            "hobbychair_front_request_duration_seconds_count 1",
+            "hobbychair_front_again_total 1",
+            "hobbychair_front_open_requests 1",
+            "hobbychair_front_acting_server 3",
+        ] {
+            assert!(told.lines().any(|told| told == line), "{line} in {told}");
+        }
+        drop(open);
+        assert!(get(&operators, "/metrics").1.contains("hobbychair_front_open_requests 0"));
+        let post = Request::post("/health").body(Body::empty()).unwrap();
+        assert_eq!((operators.answer(&post).status().as_u16(), get(&operators, "/").0), (405, 404));
+    }
+}
