@@ -38,7 +38,7 @@ impl fmt::Display for Size {
         let unit = UNITS.iter().rev().find(|(_, shift)| self.0 >= 1 << shift);
         let Some((unit, shift)) = unit else { return write!(out, "{}", self.0) };
         // Tenths, so that no number is rounded up to one that isn't there.
-        let tenths = u128::from(self.0) * 10 >> shift;
+        let tenths = (u128::from(self.0) * 10) >> shift;
         match tenths % 10 {
             0 => write!(out, "{}{unit}", tenths / 10),
             tenth => write!(out, "{}.{tenth}{unit}", tenths / 10),
