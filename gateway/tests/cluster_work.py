@@ -2,6 +2,7 @@
 
 from __future__ import annotations
 
+import http.client
 import itertools
 import json
 import threading
@@ -15,10 +16,10 @@ from typing import Any
 import botocore.exceptions
 
 from clusters import NAME, Cluster, wait
-from started import Started, boto3_client
+from started import ByJson, Refused, Started, boto3_client
 
 # What a client takes for an answer that didn't come.
-UNANSWERED = (botocore.exceptions.BotoCoreError, botocore.exceptions.ClientError)
+UNANSWERED = (botocore.exceptions.BotoCoreError, botocore.exceptions.ClientError, Refused, OSError, http.client.HTTPException)
 
 # So long a message of the tests is hidden, in seconds.
 TIMEOUT = 6
@@ -274,9 +275,9 @@ class Work:
 
     def move(self) -> None:
         """Starts a task whenever none runs."""
-        sqs = self.served.client(1)
+        ask = ByJson(self.served.fronts[-1].url)
         while self.receiving:
-            started = self.call(lambda: sqs.start_message_move_task(SourceArn=arn("shelf"), DestinationArn=arn("moved")))
+            started = self.call(lambda: ask("StartMessageMoveTask", SourceArn=arn("shelf"), DestinationArn=arn("moved")))
             time.sleep(1 if started else 0.3)
 
     # ---- what has to hold

@@ -198,12 +198,13 @@ def _lower(headers) -> dict[str, str]:
 class ByJson:
     """Calls in AWS JSON 1.0, written here."""
 
-    def __init__(self, url: str) -> None:
-        self.url = url
+    def __init__(self, url: str, **headers: str) -> None:
+        """`headers` go with each call, beside those that all have."""
+        self.url, self.headers = url, headers
 
     def __call__(self, action: str, **members: Any) -> dict[str, Any]:
         headers = {"X-Amz-Target": f"AmazonSQS.{action}", "Content-Type": "application/x-amz-json-1.0",
-                   "x-amzn-query-mode": "true"}
+                   "x-amzn-query-mode": "true"} | self.headers
         status, got, body = post(self.url + "/", json.dumps(members, default=_base64).encode(), headers)
         assert got["content-type"] == "application/x-amz-json-1.0" and got["x-amzn-requestid"]
         result = json.loads(body)

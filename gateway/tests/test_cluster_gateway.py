@@ -13,7 +13,7 @@ import pytest
 
 from cluster_work import Served, Work, arn
 from clusters import has_etcd, wait
-from started import boto3_client
+from started import ByJson, Refused
 
 pytestmark = pytest.mark.skipif(not has_etcd(), reason="etcd isn't there: Debian's etcd-server has it")
 
@@ -116,31 +116,33 @@ def fill(served: Served, queue: str, body: str, most: int = 100) -> int:
 
 def test_what_was_done_is_no_error_the_second_time(served):
     """A front that got no answer asks again, and says so."""
-    sqs = boto3_client(f"http://127.0.0.1:{served.cluster.node(1).gateway_port}", read_timeout=60)
+    url = f"http://127.0.0.1:{served.cluster.node(1).gateway_port}"
+    first, again = ByJson(url), ByJson(url, **{"x-hobbychair-again": "true"})
     queue = served.queue("q")
     dead = served.queue("dead")
     served.queue("source", RedrivePolicy=json.dumps({"deadLetterTargetArn": arn("dead"), "maxReceiveCount": 1}))
     permission = {"QueueUrl": queue, "Label": "a", "AWSAccountIds": ["123456789012"], "Actions": ["SendMessage"]}
     task = {"SourceArn": arn("dead"), "DestinationArn": arn("q"), "MaxNumberOfMessagesPerSecond": 1}
     for number in range(20):
-        sqs.send_message(QueueUrl=dead, MessageBody=str(number))
-    sqs.add_permission(**permission)
-    handle = sqs.start_message_move_task(**task)["TaskHandle"]
-    refused = sqs.exceptions.ClientError
-    with pytest.raises(refused, match="Already exists"):
-        sqs.add_permission(**permission)
-    with pytest.raises(refused, match="already a task running"):
-        sqs.start_message_move_task(**task)
-    sqs.meta.events.register("before-send.sqs.*", lambda request, **_: request.headers.add_header("x-hobbychair-again", "true"))
-    sqs.add_permission(**permission)
-    with pytest.raises(refused, match="Already exists"):
-        sqs.add_permission(**permission | {"Actions": ["ReceiveMessage"]})
-    assert sqs.start_message_move_task(**task)["TaskHandle"] == handle
-    with pytest.raises(refused, match="already a task running"):
-        sqs.start_message_move_task(**task | {"MaxNumberOfMessagesPerSecond": 2})
+        first("SendMessage", QueueUrl=dead, MessageBody=str(number))
+    first("AddPermission", **permission)
+    handle = first("StartMessageMoveTask", **task)["TaskHandle"]
+
+    def is_refused(call: ByJson, action: str, **members: object) -> None:
+        with pytest.raises(Refused, match="InvalidParameterValue"):
+            call(action, **members)
+
+    is_refused(first, "AddPermission", **permission)
+    is_refused(first, "StartMessageMoveTask", **task)
+    again("AddPermission", **permission)
+    is_refused(again, "AddPermission", **permission | {"Actions": ["ReceiveMessage"]})
+    assert again("StartMessageMoveTask", **task)["TaskHandle"] == handle
+    is_refused(again, "StartMessageMoveTask", **task | {"MaxNumberOfMessagesPerSecond": 2})
     for _ in range(2):
-        sqs.remove_permission(QueueUrl=queue, Label="a")
-        assert sqs.cancel_message_move_task(TaskHandle=handle)["ApproximateNumberOfMessagesMoved"] < 20
+        again("RemovePermission", QueueUrl=queue, Label="a")
+        assert again("CancelMessageMoveTask", TaskHandle=handle)["ApproximateNumberOfMessagesMoved"] < 20
+    is_refused(first, "RemovePermission", QueueUrl=queue, Label="a")
+    is_refused(first, "CancelMessageMoveTask", TaskHandle=handle)
 
 
 # ---- faults
