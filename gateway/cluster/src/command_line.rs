@@ -6,6 +6,7 @@ use std::path::PathBuf;
 use anyhow::{bail, Result};
 use clap::{ArgGroup, Args, Subcommand};
 
+use crate::certificates::{self, Wanted};
 use crate::node::{self, gateway, Beginning, End};
 use crate::records::Cluster;
 use crate::roster::MOST_MEMBERS;
@@ -88,6 +89,8 @@ pub enum OfCluster {
         #[command(flatten)]
         which: Which,
     },
+    /// Make an authority, and with --role certificates that it has signed, by the program openssl
+    Certificates(Wanted),
     /// Start a whole cluster on this machine, to try it
     Up {
         /// How many nodes
@@ -158,6 +161,10 @@ pub fn run_cluster(asked: OfCluster, program: Option<String>) -> Result<()> {
             }
             OfCluster::Log { which } => {
                 status::log(&which.find().await?).await?.iter().for_each(|line| say(line));
+                Ok(())
+            }
+            OfCluster::Certificates(wanted) => {
+                certificates::make(&wanted)?.iter().for_each(|line| say(line));
                 Ok(())
             }
             OfCluster::Up { nodes, folder, gateway_config, .. } => {

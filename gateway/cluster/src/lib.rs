@@ -3,20 +3,23 @@
 //! A node (`node`) runs one `cq server` (`child`, `commands`) and carries what it puts to the others by links (`link`,
 //! `wire`). A candidate for the master (`master`) appends lines (`decision`, of what `silence` and `roster` say) to a log
 //! in etcd (`etcd`, `records`). The node of the head starts the gateway that acts (`node/gateway`, `pipe`), and fronts find
-//! it (`acting`). Two rules are kept: no clock and no lease is part of what keeps data safe, and a server
+//! it (`acting`). A process is known by its certificate (`identity`, `pem`), which `certificates` makes. Two rules are kept: no clock and no lease is part of what keeps data safe, and a server
 //! ends only because the log says so, or by a fault of its own.
 
 pub mod acting;
+mod certificates;
 mod child;
 mod clock;
 pub mod command_line;
 mod commands;
 mod decision;
 mod etcd;
+pub mod identity;
 mod link;
 mod master;
 mod node;
 pub mod parts;
+pub mod pem;
 pub mod pipe;
 mod records;
 mod roster;
