@@ -12,6 +12,7 @@ use std::time::Duration;
 use anyhow::{Context, Result};
 use bytes::Bytes;
 use hobbychair_cluster::acting::Follower;
+use hobbychair_cluster::identity::{IdentityFiles, Role};
 use hyper::header::{HeaderValue, CONNECTION};
 use hyper::server::conn::Http;
 use hyper::service::service_fn;
@@ -48,6 +49,8 @@ pub struct Settings {
     pub cluster: String,
     /// The members of etcd.
     pub etcd: Vec<String>,
+    /// Its certificate, where the cluster has some.
+    pub files: IdentityFiles,
     pub host: String,
     pub port: u16,
     /// Everybody is served also from other machines.
@@ -69,8 +72,10 @@ pub async fn serve(settings: Settings) -> Result<()> {
         return Err(Misuse(format!("{host}: {why}")).into());
     }
     let places = Places::for_front(settings.connections)?;
-    let follower = Follower::begin(&settings.cluster, &settings.etcd).await?;
-    let front = Arc::new(Front { passing: Passing::new(follower), budget: Budget::new(settings.request_memory) });
+    let identity = settings.files.identity(&settings.cluster, &[Role::Front, Role::Node])?;
+    let follower = Follower::begin(&settings.cluster, &settings.etcd, identity.clone()).await?;
+    let front =
+        Arc::new(Front { passing: Passing::new(follower, identity), budget: Budget::new(settings.request_memory) });
     let (end, ending) = End::new();
     let mut served = tokio::spawn(front.serve(listener, places.served, ending));
     notify_supervisor(sd_notify::NotifyState::Ready);

@@ -3,13 +3,15 @@
 //! A request is asked at the gateway that acts, and again at the next one where no answer comes. All tries have the same call
 //! and the same end, so that a gateway that wakes up late asks the store for nothing that was answered otherwise.
 
+use std::sync::Arc;
 use std::time::Duration;
 
 use bytes::{Bytes, BytesMut};
 use hobbychair_cluster::acting::{Acting, Follower};
+use hobbychair_cluster::identity::{Identity, Role};
+use hobbychair_cluster::transport::Connector;
 use hyper::body::HttpBody;
-use hyper::client::HttpConnector;
-use hyper::{Body, Client, Request, Response};
+use hyper::{Body, Client, Request, Response, Uri};
 use thiserror::Error;
 use tokio::sync::Mutex;
 use tokio::time::{sleep_until, timeout, Instant};
@@ -70,17 +72,19 @@ struct Wanted {
 /// Passes requests on to whichever gateway acts.
 pub struct Passing {
     follower: Follower,
-    client: Client<HttpConnector, Body>,
+    client: Client<Connector, Body>,
     times: Times,
     /// Held by the one who asks for the time.
     asking: Mutex<()>,
 }
 
 impl Passing {
-    pub fn new(follower: Follower) -> Passing {
-        let mut connector = HttpConnector::new();
-        connector.set_nodelay(true);
-        connector.set_connect_timeout(Some(CONNECTING));
+    /// Where there are certificates, a gateway is asked only if it shows the one that its node has registered.
+    pub fn new(follower: Follower, identity: Option<Arc<Identity>>) -> Passing {
+        let known = follower.clone();
+        let connector = Connector::new(identity, Role::Node, CONNECTING).to_registered(move |uri| {
+            known.acting().filter(|acting| is_at(uri, acting)).map(|acting| acting.certificate)
+        });
         // What a client doesn't say of the host, nobody says in its place.
         let client = Client::builder().set_host(false).pool_idle_timeout(IDLE).build(connector);
         Passing { follower, client, times: Times::default(), asking: Mutex::default() }
@@ -189,6 +193,11 @@ impl Passing {
         }
         Ok(Response::from_parts(head, whole.freeze()))
     }
+}
+
+/// Whether that gateway is the one at an address.
+fn is_at(uri: &Uri, acting: &Acting) -> bool {
+    uri.authority().is_some_and(|authority| authority.as_str() == acting.address.to_string())
 }
 
 #[cfg(test)]

@@ -38,7 +38,7 @@ async fn gateway(server: u32, does: &'static [Does]) -> (Acting, UnboundedReceiv
             });
         }
     });
-    (Acting { server, address }, heads)
+    (Acting { server, address, certificate: None }, heads)
 }
 
 async fn converse(mut stream: TcpStream, next: impl Fn() -> Does, say: impl Fn(&str)) -> Option<()> {
@@ -78,7 +78,7 @@ async fn a_request_is_asked_again_as_the_same_call_with_the_same_end() {
     let (acting, mut heads) = gateway(1, &[Does::Breaks, Does::Breaks]).await;
     let (tell, follower) = Follower::for_tests();
     tell.send_replace(Some(acting));
-    let passing = Passing::new(follower);
+    let passing = Passing::new(follower, None);
     let answer = passing.pass(&asked(), Instant::now(), &share()).await.unwrap();
     assert_eq!((answer.status().as_u16(), &answer.body()[..], answer.headers().len()), (200, &b"ok"[..], 0));
     let tries = [heads.recv().await.unwrap(), heads.recv().await.unwrap(), heads.recv().await.unwrap()];
@@ -97,7 +97,7 @@ async fn where_another_gateway_acts_it_is_asked_at_once() {
     let (first, mut heads) = gateway(1, &[Does::Nothing]).await;
     let (second, mut others) = gateway(2, &[]).await;
     let (tell, follower) = Follower::for_tests();
-    let passing = Arc::new(Passing::new(follower));
+    let passing = Arc::new(Passing::new(follower, None));
     let passed = {
         let passing = passing.clone();
         tokio::spawn(async move { passing.pass(&asked(), Instant::now(), &share()).await })
@@ -114,7 +114,7 @@ async fn where_another_gateway_acts_it_is_asked_at_once() {
 #[tokio::test(start_paused = true)]
 async fn where_nobody_acts_there_is_an_error_after_a_while() {
     let (_tell, follower) = Follower::for_tests();
-    let passing = Passing::new(follower);
+    let passing = Passing::new(follower, None);
     let arrived = Instant::now();
     let refused = passing.pass(&asked(), arrived, &share()).await.unwrap_err();
     assert!(matches!(refused, SqsError::ServiceUnavailable(_)));
@@ -126,7 +126,7 @@ async fn an_answer_that_there_is_no_room_for_is_refused() {
     let (acting, _heads) = gateway(1, &[]).await;
     let (tell, follower) = Follower::for_tests();
     tell.send_replace(Some(acting));
-    let passing = Passing::new(follower);
+    let passing = Passing::new(follower, None);
     let (asked, full) = (asked(), Budget::of(0, 0).share());
     let refused = passing.pass(&asked, Instant::now(), &full).await.unwrap_err();
     assert!(matches!(&refused, SqsError::ServiceUnavailable(why) if why.contains("Too many")), "{refused:?}");
