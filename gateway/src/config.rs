@@ -7,6 +7,7 @@ use std::time::Duration;
 
 use anyhow::Result;
 use clap::ValueEnum;
+use hobbychair_cluster::identity::IdentityFiles;
 use hobbychair_cluster::memory;
 use serde::Deserialize;
 use thiserror::Error;
@@ -72,12 +73,15 @@ pub struct Options {
     /// Serve everybody, also on an address that others reach
     #[arg(long, num_args = 0..=1, default_missing_value = "true", require_equals = true, value_name = "BOOL", env = "HOBBYCHAIR_OPEN")]
     open: Option<bool>,
-    /// Speak TLS, with this chain of certificates in PEM
+    /// Speak TLS, with this chain of certificates in PEM; to a cluster, where --authority is given
     #[arg(long, value_name = "FILE", env = "HOBBYCHAIR_CERTIFICATE")]
     certificate: Option<PathBuf>,
     /// The private key of the certificate, in PEM
     #[arg(long, value_name = "FILE", env = "HOBBYCHAIR_KEY")]
     key: Option<PathBuf>,
+    /// The certificate of a cluster's authority, in PEM, where the cluster has certificates
+    #[arg(long, value_name = "FILE", env = "HOBBYCHAIR_AUTHORITY")]
+    authority: Option<PathBuf>,
     /// Under which address clients know the gateway, for the URLs of queues
     #[arg(long, env = "HOBBYCHAIR_URL")]
     url: Option<BaseUrl>,
@@ -366,6 +370,7 @@ impl Options {
             open: self.open.or(file.open),
             certificate: self.certificate.or(file.certificate),
             key: self.key.or(file.key),
+            authority: self.authority.or(file.authority),
             url: self.url.or(file.url),
             allowed_hosts: self.allowed_hosts.or(file.allowed_hosts),
             account: self.account.or(file.account),
@@ -400,6 +405,9 @@ impl Options {
 
     /// What a front is started with, if a cluster is named.
     pub fn front(&self) -> Result<Option<front::Settings>> {
+        if self.beside_node {
+            return Ok(None);
+        }
         let (cluster, etcd) = match (self.cluster.clone(), self.etcd.clone()) {
             (Some(cluster), Some(etcd)) => (cluster, etcd),
             (None, None) => return Ok(None),
@@ -409,9 +417,15 @@ impl Options {
             let why = "is nothing that a front is told: it is for the gateways beside the nodes (--gateway-config)";
             return Err(Misuse(format!("{name} {why}")).into());
         }
+        let (certificate, key, authority) = (self.certificate.clone(), self.key.clone(), self.authority.clone());
+        if [&certificate, &key, &authority].into_iter().flatten().count() % 3 != 0 {
+            let why = "a front's certificate, its key and the cluster's authority are given together";
+            return Err(Misuse(why.into()).into());
+        }
         Ok(Some(front::Settings {
             cluster,
             etcd,
+            files: IdentityFiles { certificate, key, authority },
             host: self.host.clone().unwrap_or_else(|| LOOPBACK.into()),
             port: self.port.unwrap_or(PORT),
             open: self.open.unwrap_or(false),
@@ -422,15 +436,13 @@ impl Options {
     }
 
     /// The options that a front has no use for, and whether they are given.
-    fn of_gateways(&self) -> [(&'static str, bool); 15] {
+    fn of_gateways(&self) -> [(&'static str, bool); 13] {
         [
             ("shards", self.shards.is_some()),
             ("journal", self.journal.is_some()),
             ("journal-size", self.journal_size.is_some()),
             ("memory", self.memory.is_some()),
             ("credentials", self.credentials.is_some()),
-            ("certificate", self.certificate.is_some()),
-            ("key", self.key.is_some()),
             ("url", self.url.is_some()),
             ("allowed-hosts", self.allowed_hosts.is_some()),
             ("account", self.account.is_some()),
@@ -444,11 +456,17 @@ impl Options {
 
     /// What a gateway is started with. `program` finds the program cq by what was said of it.
     pub fn settings(self, program: impl FnOnce(Option<String>) -> Result<String>) -> Result<Settings> {
-        let certificate = match (self.certificate, self.key) {
-            (Some(certificate), Some(key)) => Some((certificate, key)),
-            (None, None) => None,
+        let (mut certificate, mut members) = (None, None);
+        match (self.certificate, self.key, self.authority, self.cluster) {
+            (Some(of_server), Some(key), None, _) => certificate = Some((of_server, key)),
+            (Some(own), Some(key), Some(authority), Some(cluster)) if self.beside_node => {
+                let files = IdentityFiles { certificate: Some(own), key: Some(key), authority: Some(authority) };
+                members = Some((cluster, files));
+            }
+            (None, None, None, _) => {}
+            (_, _, Some(_), _) => return Err(Misuse("an authority is given, and no cluster".into()).into()),
             _ => return Err(Misuse("a certificate and its key are given together".into()).into()),
-        };
+        }
         if self.beside_node && (self.journal.is_some() || self.shards.is_some()) {
             return Err(Misuse("a gateway beside a node has no journal and no shards of its own".into()).into());
         }
@@ -488,6 +506,7 @@ impl Options {
             credentials: self.credentials,
             open: self.open.unwrap_or(false),
             certificate,
+            members,
             url: self.url.map(|url| url.0),
             allowed_hosts: self.allowed_hosts.unwrap_or_default().into_iter().map(|name| name.0).collect(),
             owner: Owner {

@@ -7,6 +7,7 @@ use std::sync::{Arc, OnceLock};
 use std::time::Duration;
 
 use anyhow::{anyhow, bail, Context, Result};
+use hobbychair_cluster::identity::{Identity, IdentityFiles, Role};
 use tokio::net::TcpListener;
 use tokio::signal::unix::{signal, Signal, SignalKind};
 use tokio::task::JoinHandle;
@@ -63,6 +64,8 @@ pub struct Settings {
     pub open: bool,
     /// A chain of certificates and its key.
     pub certificate: Option<(PathBuf, PathBuf)>,
+    /// The cluster whose fronts alone are served, and the certificate that they are shown.
+    pub members: Option<(String, IdentityFiles)>,
     /// The URL under which clients know the gateway.
     pub url: Option<String>,
     /// By which further names clients without keys reach it.
@@ -175,6 +178,8 @@ struct Entrance {
     listener: TcpListener,
     keys: Option<Arc<Keys>>,
     certificate: Option<Arc<Certificate>>,
+    /// What fronts are shown, where they alone are served.
+    identity: Option<Arc<Identity>>,
 }
 
 impl Entrance {
@@ -186,14 +191,20 @@ impl Entrance {
             Some((certificate, key)) => Some(Arc::new(Certificate::read(certificate, key)?)),
             None => None,
         };
+        let identity = match &settings.members {
+            Some((cluster, files)) => files.identity(cluster, &[Role::Node])?,
+            None => None,
+        };
         let (host, port) = (&settings.host, settings.port);
         let listener = listen(host, port).with_context(|| format!("can't listen on {host}:{port}"))?;
-        if keys.is_none() && !settings.open && !is_of_this_machine(listener.local_addr()?.ip()) {
+        // Fronts show who they are, and say themselves whom they serve.
+        let is_open = settings.open || identity.is_some();
+        if keys.is_none() && !is_open && !is_of_this_machine(listener.local_addr()?.ip()) {
             let why = "without --credentials only this machine is served, by an address of 127.0.0.0/8 or by ::1. \
                        To serve everybody who can reach the gateway, say --open";
             return Err(Misuse(format!("{host}: {why}")).into());
         }
-        Ok(Entrance { listener, keys, certificate })
+        Ok(Entrance { listener, keys, certificate, identity })
     }
 
     /// Reads the files again, beside all else: a file may be a pipe that nobody writes to. What can't be read stays as
@@ -357,7 +368,7 @@ async fn finish_all(store: &Store, last: Moment) {
 
 async fn answer(settings: &Settings, started: Started, signals: &mut Signals) -> Result<()> {
     let Started { entrance, places, admin, running } = started;
-    let Entrance { listener, keys, certificate } = entrance;
+    let Entrance { listener, keys, certificate, identity } = entrance;
     let RunningStore { store, mut ends, _lock } = running;
     // The program has to answer before anybody is told that there is something to ask.
     let is_answering = tokio::select! {
@@ -376,11 +387,11 @@ async fn answer(settings: &Settings, started: Started, signals: &mut Signals) ->
     actions.declare(&settings.queues).await;
     let local = listener.local_addr()?;
     let addresses = Addresses { url: settings.url.clone(), local, has_tls: certificate.is_some() };
-    let url = format!("{}://{local}", addresses.scheme());
+    let url = format!("{}://{local}", if identity.is_some() { "https" } else { addresses.scheme() });
     let budget = Budget::new(settings.request_memory);
     let (hosts, metrics) = (settings.hosts(), admin.metrics.clone());
     let service = Arc::new(Service::new(actions, keys.clone(), hosts, addresses, metrics, budget));
-    let door = Door { service, certificate: certificate.clone(), places };
+    let door = Door { service, certificate: certificate.clone(), identity, places };
     let mut served = tokio::spawn(door.serve(listener, ending));
     admin.health.serves();
     notify_supervisor(sd_notify::NotifyState::Ready);

@@ -1,17 +1,15 @@
 //! TLS: the certificate by which clients know the server, which can be read again while they come.
 
 use std::fmt;
-use std::fs;
 use std::path::{Path, PathBuf};
 use std::sync::{Arc, PoisonError, RwLock};
 
-use anyhow::{anyhow, bail, Result};
+use anyhow::Result;
+use hobbychair_cluster::pem::{certified_key, Pem};
 use rustls::server::{ClientHello, ResolvesServerCert};
-use rustls::sign::{any_supported_type, CertifiedKey, SigningKey};
-use rustls::{PrivateKey, ServerConfig, SignatureScheme};
-use rustls_pemfile::Item;
+use rustls::sign::CertifiedKey;
+use rustls::ServerConfig;
 use tokio_rustls::TlsAcceptor;
-use webpki::{EndEntityCert, SignatureAlgorithm};
 
 /// What TLS calls HTTP/1.1 (RFC 7301, "TLS Application-Layer Protocol Negotiation (ALPN) Protocol IDs").
 const HTTP_1_1: &[u8] = b"http/1.1";
@@ -28,9 +26,8 @@ pub struct Certificate {
 struct Current(RwLock<Arc<CertifiedKey>>);
 
 impl Certificate {
-    /// Reads a chain of certificates, the server's own first, and its key, both in PEM. The key is RSA of 2048 to 4096
-    /// bits, ECDSA on P-256 or P-384, or Ed25519, in PKCS#8, PKCS#1 or SEC1, and not encrypted. An error is one line
-    /// that names the file and what is wrong; so is a key that isn't the certificate's.
+    /// Reads a chain of certificates, the server's own first, and its key ([`certified_key`]), both in PEM. An error is one
+    /// line that names the file and what is wrong.
     pub fn read(certificate: &Path, key: &Path) -> Result<Certificate> {
         let current = Arc::new(Current(RwLock::new(Arc::new(read_both(certificate, key)?))));
         let config = ServerConfig::builder().with_safe_defaults().with_no_client_auth();
@@ -65,72 +62,16 @@ impl ResolvesServerCert for Current {
 }
 
 fn read_both(certificate: &Path, key: &Path) -> Result<CertifiedKey> {
-    let chain: Vec<_> = items(certificate)?.into_iter().filter_map(certificate_of).collect();
-    let Some(own) = chain.first() else { bail!("{}: it has no certificate", certificate.display()) };
-    let own = EndEntityCert::try_from(own.0.as_slice())
-        .map_err(|error| anyhow!("{}: its first certificate can't be read: {error}", certificate.display()))?;
-    let signing = signing_key(key)?;
-    if !is_key_of(signing.as_ref(), &own) {
-        bail!("{} is not the key of {}", key.display(), certificate.display());
-    }
-    Ok(CertifiedKey::new(chain, signing))
+    certified_key(&Pem::read(certificate)?, &Pem::read(key)?)
 }
-
-/// The sections of a file in PEM. What stands around them is passed over.
-fn items(path: &Path) -> Result<Vec<Item>> {
-    let text = fs::read(path).map_err(|error| anyhow!("{}: {error}", path.display()))?;
-    // The reason could show a piece of a key.
-    rustls_pemfile::read_all(&mut text.as_slice()).map_err(|_| anyhow!("{}: it is not good PEM", path.display()))
-}
-
-fn certificate_of(item: Item) -> Option<rustls::Certificate> {
-    match item {
-        Item::X509Certificate(bytes) => Some(rustls::Certificate(bytes)),
-        _ => None,
-    }
-}
-
-fn key_of(item: Item) -> Option<PrivateKey> {
-    match item {
-        Item::RSAKey(bytes) | Item::PKCS8Key(bytes) | Item::ECKey(bytes) => Some(PrivateKey(bytes)),
-        _ => None,
-    }
-}
-
-fn signing_key(path: &Path) -> Result<Arc<dyn SigningKey>> {
-    let keys: Vec<PrivateKey> = items(path)?.into_iter().filter_map(key_of).collect();
-    match keys.as_slice() {
-        [] => bail!("{}: it has no private key, or an encrypted one", path.display()),
-        [key] => any_supported_type(key).map_err(|_| {
-            let kinds = "RSA of 2048 to 4096 bits, ECDSA on P-256 or P-384, or Ed25519";
-            anyhow!("{}: its private key is damaged or not of a kind that is supported ({kinds})", path.display())
-        }),
-        _ => bail!("{}: it has more than one private key", path.display()),
-    }
-}
-
-/// Whether what a key signs is verified by a certificate.
-fn is_key_of(key: &dyn SigningKey, certificate: &EndEntityCert<'_>) -> bool {
-    const TEXT: &[u8] = b"whose key is this";
-    SCHEMES.iter().any(|(scheme, algorithm)| {
-        let signature = key.choose_scheme(&[*scheme]).and_then(|signer| signer.sign(TEXT).ok());
-        signature.is_some_and(|signature| certificate.verify_signature(algorithm, TEXT, &signature).is_ok())
-    })
-}
-
-/// One scheme of signatures for each kind of key, and how it is verified.
-const SCHEMES: [(SignatureScheme, &SignatureAlgorithm); 4] = [
-    (SignatureScheme::RSA_PKCS1_SHA256, &webpki::RSA_PKCS1_2048_8192_SHA256),
-    (SignatureScheme::ECDSA_NISTP256_SHA256, &webpki::ECDSA_P256_SHA256),
-    (SignatureScheme::ECDSA_NISTP384_SHA384, &webpki::ECDSA_P384_SHA384),
-    (SignatureScheme::ED25519, &webpki::ED25519),
-];
 
 #[cfg(test)]
 mod tests {
+    use std::fs;
     use std::io::Cursor;
 
     use rustls::{ClientConfig, ProtocolVersion, RootCertStore, ServerName, SupportedProtocolVersion};
+    use rustls_pemfile::Item;
     use tokio::io::{AsyncReadExt, AsyncWriteExt};
     use tokio_rustls::TlsConnector;
 

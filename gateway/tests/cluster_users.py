@@ -183,7 +183,8 @@ class Users(threading.Thread):
         if port is None:
             return
         try:
-            reader, writer = await asyncio.open_connection("127.0.0.1", port)
+            secured = self.cluster.secured_as("node", "user")
+            reader, writer = await asyncio.open_connection("127.0.0.1", port, **secured)
         except OSError:
             return
         try:

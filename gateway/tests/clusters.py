@@ -18,6 +18,7 @@ from collections.abc import Callable
 from pathlib import Path
 from typing import Any
 
+from certificates import Certificates
 from started import gateway_program, program
 
 NAME = "tested"
@@ -53,12 +54,14 @@ def run(*words: str, timeout: float = 30) -> subprocess.CompletedProcess:
 class Etcd:
     """One etcd, of one member or of three."""
 
-    def __init__(self, room: Path, members: int = 1) -> None:
-        self.room = room
+    def __init__(self, room: Path, members: int = 1, certificates: Certificates | None = None) -> None:
+        self.room, self.certificates = room, certificates
+        # What tests show it.
+        self.context = certificates.client(certificates.has("master", "master")) if certificates else None
         # Where there is memory for it, other work on the disk holds nothing up.
         self.data = tempfile.TemporaryDirectory(dir="/dev/shm" if os.access("/dev/shm", os.W_OK) else None)
         ports = free_ports(2 * members)
-        self.urls = [f"http://127.0.0.1:{port}" for port in ports[:members]]
+        self.urls = [f"http{'s' if certificates else ''}://127.0.0.1:{port}" for port in ports[:members]]
         self.peers = [f"http://127.0.0.1:{port}" for port in ports[members:]]
         self.processes = [self.start(place) for place in range(members)]
         wait(20, self.answers, "etcd doesn't begin")
@@ -69,6 +72,7 @@ class Etcd:
                  "--listen-client-urls", self.urls[place], "--advertise-client-urls", self.urls[place],
                  "--listen-peer-urls", self.peers[place], "--initial-advertise-peer-urls", self.peers[place],
                  "--initial-cluster", cluster, "--logger", "zap", "--log-level", "error"]
+        words += self.certificates.words_of_etcd() if self.certificates else []
         with open(self.room / f"etcd{place}.log", "ab") as log:
             return subprocess.Popen(words, stdin=subprocess.DEVNULL, stdout=log, stderr=log)
 
@@ -78,7 +82,7 @@ class Etcd:
         for url in self.urls:
             try:
                 request = urllib.request.Request(url + path, data, {"Content-Type": "application/json"})
-                with urllib.request.urlopen(request, timeout=patience) as answer:
+                with urllib.request.urlopen(request, timeout=patience, context=self.context) as answer:
                     return json.load(answer)
             except OSError:
                 continue
@@ -131,7 +135,7 @@ class Proxy:
     def __init__(self, url: str) -> None:
         self.port = int(url.rsplit(":", 1)[1])
         self.listener = socket.create_server(("127.0.0.1", 0))
-        self.url = f"http://127.0.0.1:{self.listener.getsockname()[1]}"
+        self.url = f"{url.split(':')[0]}://127.0.0.1:{self.listener.getsockname()[1]}"
         self.is_cut = False
         self.open: list[socket.socket] = []
         threading.Thread(target=self.accept, daemon=True).start()
@@ -242,13 +246,15 @@ class Cluster:
 
     def __init__(self, room: Path, size: int = 3, members: int = 1, masters: int = 2, absent: tuple[int, ...] = (),
                  programs: Callable[[str], str] = lambda name: program(), breakable: bool = False,
-                 gateways: bool = False, words: Callable[[int], list[str]] = lambda number: []) -> None:
+                 gateways: bool = False, certificates: Certificates | None = None,
+                 words: Callable[[int], list[str]] = lambda number: []) -> None:
         """`words` are those that the node that is started as that one gets, beside the usual ones."""
         self.between: list[Proxy] = []
         self.words = words
         self.room, self.size, self.programs, self.gateways = room, size, programs, gateways
-        self.etcd = Etcd(room, members)
-        made = run("cluster", "create", "--cluster", NAME, "--etcd", ",".join(self.etcd.urls), "--nodes", str(size))
+        self.certificates = certificates
+        self.etcd = Etcd(room, members, certificates)
+        made = run("cluster", "create", *self.which("master"), "--nodes", str(size))
         assert made.returncode == 0, made.stderr
         self.incarnation = json.loads(self.etcd.read(f"hobbychair/{NAME}/cluster")[f"hobbychair/{NAME}/cluster"])["incarnation"]
         self.root = f"hobbychair/{NAME}/{self.incarnation}"
@@ -269,6 +275,18 @@ class Cluster:
             self.end()
             raise
 
+    def which(self, role: str, name: str | None = None) -> list[str]:
+        """What a process of that role is told of the cluster, and of its own certificate, if it has one."""
+        words = ["--cluster", NAME, "--etcd", ",".join(self.etcd.urls)]
+        return words + (self.certificates.words(self.certificates.has(role, name or role)) if self.certificates else [])
+
+    def secured_as(self, role: str, name: str) -> dict[str, Any]:
+        """What a connection to a node is told, where there are certificates: that of this name is shown."""
+        if self.certificates is None:
+            return {}
+        context = self.certificates.client(self.certificates.has(role, name))
+        return {"ssl": context, "server_hostname": self.certificates.name_of("node")}
+
     def _start(self, name: str, *words: str) -> tuple[subprocess.Popen, Path]:
         log = self.room / f"{name}.log"
         environment = {**os.environ, "HOBBYCHAIR_CQ": self.programs(name)}
@@ -286,8 +304,8 @@ class Cluster:
         if self.gateways:
             how += ["--gateway", f"127.0.0.1:{port}"]
         how += self.words(len(self.nodes) + 1)
-        process, log = self._start(name, "node", "--cluster", NAME, "--etcd", urls, "--listen", "127.0.0.1:0",
-                                   "--trace", str(trace), *how)
+        which = [urls if word == ",".join(self.etcd.urls) else word for word in self.which("node", name)]
+        process, log = self._start(name, "node", *which, "--listen", "127.0.0.1:0", "--trace", str(trace), *how)
         node = Node(process, log, trace, proxy)
         node.gateway_port = port
         self.nodes.append(node)
@@ -309,7 +327,7 @@ class Cluster:
         self.etcd.write(key, json.dumps(registration, separators=(",", ":")))
 
     def start_master(self) -> None:
-        process, _ = self._start(f"master{len(self.masters) + 1}", "master", "--cluster", NAME, "--etcd", ",".join(self.etcd.urls))
+        process, _ = self._start(f"master{len(self.masters) + 1}", "master", *self.which("master"))
         self.masters.append(process)
 
     def node(self, server: int) -> Node:

@@ -10,6 +10,7 @@ use tokio::sync::{watch, Notify};
 use tokio::time::{sleep, timeout};
 
 use crate::etcd::Operation;
+use crate::identity::{Fingerprint, Identity};
 use crate::records::{self, Chain, Cluster, Registration};
 
 /// So often etcd is looked at where nothing calls for it.
@@ -24,6 +25,8 @@ pub struct Acting {
     /// The head's number.
     pub server: u32,
     pub address: SocketAddr,
+    /// The certificate that it shows, where there are certificates.
+    pub certificate: Option<Fingerprint>,
 }
 
 /// Follows which gateway acts. Where etcd is away, it stays the one that was known last.
@@ -35,8 +38,8 @@ pub struct Follower {
 
 impl Follower {
     /// Finds the cluster, and follows it from then on. An error says why it isn't found.
-    pub async fn begin(name: &str, urls: &[String]) -> Result<Follower> {
-        let cluster = Cluster::find(name, urls).await?.impatient();
+    pub async fn begin(name: &str, urls: &[String], identity: Option<Arc<Identity>>) -> Result<Follower> {
+        let cluster = Cluster::find(name, urls, identity).await?.impatient();
         let (sender, acting) = watch::channel(None);
         let look = Arc::new(Notify::new());
         tokio::spawn(cluster.etcd.clone().watch(cluster.keys.chain(), look.clone()));
@@ -99,7 +102,9 @@ async fn follow(cluster: Cluster, acting: watch::Sender<Option<Acting>>, look: A
 
 fn tell_of(found: Option<Acting>) {
     match found {
-        Some(Acting { server, address }) => tracing::info!(server, %address, "requests go to the gateway of the head"),
+        Some(Acting { server, address, .. }) => {
+            tracing::info!(server, %address, "requests go to the gateway of the head")
+        }
         None => tracing::warn!("the head has no gateway: requests wait for another head"),
     }
 }
@@ -113,8 +118,9 @@ async fn read(cluster: &Cluster, known: &mut BTreeMap<u32, Registration>) -> Res
             place.insert(registration);
         }
     }
-    let address = known.get(&head).and_then(|registration| registration.gateway);
-    Ok(address.map(|address| Acting { server: head, address }))
+    let Some(registration) = known.get(&head) else { return Ok(None) };
+    let acting = |address| Acting { server: head, address, certificate: registration.certificate };
+    Ok(registration.gateway.map(acting))
 }
 
 async fn get<T: for<'de> serde::Deserialize<'de>>(cluster: &Cluster, key: String) -> Result<Option<T>> {

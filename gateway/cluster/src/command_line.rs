@@ -6,6 +6,9 @@ use std::path::PathBuf;
 use anyhow::{bail, Result};
 use clap::{ArgGroup, Args, Subcommand};
 
+use crate::addresses::Place;
+use crate::certificates::{self, Wanted};
+use crate::identity::{IdentityFiles, Role};
 use crate::memory::{usual_bound, Size};
 use crate::node::{self, gateway, Beginning, End, Limits};
 use crate::records::Cluster;
@@ -21,11 +24,14 @@ pub struct Which {
     /// The members of etcd
     #[arg(long, value_name = "URL,..", value_delimiter = ',', required = true)]
     etcd: Vec<String>,
+    #[command(flatten)]
+    files: IdentityFiles,
 }
 
 impl Which {
-    async fn find(&self) -> Result<Cluster> {
-        Cluster::find(&self.cluster, &self.etcd).await
+    /// The cluster, for a process whose certificate has to be of one of these roles, or of any where none is said.
+    async fn find(&self, roles: &[Role]) -> Result<Cluster> {
+        Cluster::find(&self.cluster, &self.etcd, self.files.identity(&self.cluster, roles)?).await
     }
 }
 
@@ -34,9 +40,12 @@ impl Which {
 pub struct Node {
     #[command(flatten)]
     which: Which,
-    /// Where other nodes and clients reach this one
+    /// Where to listen to other nodes
     #[arg(long, value_name = "ADDRESS:PORT")]
     listen: SocketAddr,
+    /// Where other nodes find this one [default: where it listens]
+    #[arg(long, value_name = "HOST:PORT")]
+    advertise: Option<String>,
     /// Begin as that server of the first chain
     #[arg(long, value_name = "N")]
     first: Option<u32>,
@@ -46,6 +55,9 @@ pub struct Node {
     /// Where this node's gateway listens, once its server is the head [default: it has none]
     #[arg(long, value_name = "ADDRESS:PORT")]
     gateway: Option<SocketAddr>,
+    /// Where fronts find the gateway [default: where it listens]
+    #[arg(long, value_name = "HOST:PORT", requires = "gateway")]
+    advertise_gateway: Option<String>,
     /// The gateway's file of options, as serve --config has it
     #[arg(long, value_name = "FILE", requires = "gateway")]
     gateway_config: Option<PathBuf>,
@@ -95,6 +107,8 @@ pub enum OfCluster {
         #[command(flatten)]
         which: Which,
     },
+    /// Make an authority, and with --role certificates that it has signed, by the program openssl
+    Certificates(Wanted),
     /// Start a whole cluster on this machine, to try it
     Up {
         /// How many nodes
@@ -106,6 +120,9 @@ pub enum OfCluster {
         /// The gateways' file of options, as serve --config has it
         #[arg(long, value_name = "FILE")]
         gateway_config: Option<PathBuf>,
+        /// Make certificates in the folder, and use them
+        #[arg(long)]
+        certificates: bool,
         /// The program cq [default: cq of the path]
         #[arg(long, value_name = "PROGRAM", env = "HOBBYCHAIR_CQ")]
         cq: Option<String>,
@@ -130,12 +147,14 @@ fn runtime(threads: usize) -> Result<tokio::runtime::Runtime> {
 pub fn run_node(node: Node, program: String) -> Result<()> {
     let beginning = node.first.map_or(Beginning::Join, Beginning::First);
     let config = node.gateway_config;
-    let gateway = node.gateway.map(|listen| gateway::Settings { listen, config });
+    let advertise = node.advertise_gateway;
+    let gateway = node.gateway.map(|listen| gateway::Settings { place: Place { listen, advertise }, config });
+    let place = Place { listen: node.listen, advertise: node.advertise };
     let memory = node.memory.unwrap_or_else(usual_bound);
     let limits = Limits { memory: memory.0, joiner: node.joiner_memory.0 };
-    let settings = node::Settings { listen: node.listen, beginning, program, gateway, limits, trace: node.trace };
+    let settings = node::Settings { place, beginning, program, gateway, limits, trace: node.trace };
     let runtime = runtime(2)?;
-    let end = runtime.block_on(async { node::run(node.which.find().await?, settings).await })?;
+    let end = runtime.block_on(async { node::run(node.which.find(&[Role::Node]).await?, settings).await })?;
     runtime.shutdown_background();
     match end {
         End::Fault(why) => bail!("this node ends: {why}"),
@@ -148,7 +167,7 @@ pub fn run_node(node: Node, program: String) -> Result<()> {
 
 /// Runs a candidate for the master, with the program cq.
 pub fn run_master(master: &Master, program: &str) -> Result<()> {
-    runtime(1)?.block_on(async { master::run(master.which.find().await?, program).await })
+    runtime(1)?.block_on(async { master::run(master.which.find(&[Role::Master]).await?, program).await })
 }
 
 /// Does what is asked about a cluster. The program is there where one is needed.
@@ -157,7 +176,7 @@ pub fn run_cluster(asked: OfCluster, program: Option<String>) -> Result<()> {
         match asked {
             OfCluster::Create { which, nodes } => create(&which, nodes).await,
             OfCluster::Status { which, json } => {
-                let status = status::look(&which.find().await?).await?;
+                let status = status::look(&which.find(&[]).await?).await?;
                 if json {
                     say(&serde_json::to_string(&status)?);
                 } else {
@@ -166,13 +185,18 @@ pub fn run_cluster(asked: OfCluster, program: Option<String>) -> Result<()> {
                 Ok(())
             }
             OfCluster::Log { which } => {
-                status::log(&which.find().await?).await?.iter().for_each(|line| say(line));
+                status::log(&which.find(&[]).await?).await?.iter().for_each(|line| say(line));
                 Ok(())
             }
-            OfCluster::Up { nodes, folder, gateway_config, .. } => {
+            OfCluster::Certificates(wanted) => {
+                certificates::make(&wanted)?.iter().for_each(|line| say(line));
+                Ok(())
+            }
+            OfCluster::Up { nodes, folder, gateway_config, certificates, .. } => {
                 test_size(nodes)?;
                 let program = program.unwrap_or_else(|| "cq".into());
-                up::up(nodes, &folder, &program, gateway_config.as_deref()).await
+                let settings = up::Settings { nodes, folder, program, gateway_config, certificates };
+                up::up(&settings).await
             }
         }
     })
@@ -180,7 +204,8 @@ pub fn run_cluster(asked: OfCluster, program: Option<String>) -> Result<()> {
 
 async fn create(which: &Which, nodes: u32) -> Result<()> {
     test_size(nodes)?;
-    let cluster = Cluster::create(&which.cluster, &which.etcd, nodes).await?;
+    let identity = which.files.identity(&which.cluster, &[])?;
+    let cluster = Cluster::create(&which.cluster, &which.etcd, identity, nodes).await?;
     say(&format!("cluster {} is there, of incarnation {}", cluster.name, cluster.settings.incarnation));
     say(&format!("its servers 1 to {nodes} begin by: hobbychair node --first N"));
     Ok(())

@@ -10,12 +10,14 @@ use std::time::Duration;
 
 use anyhow::{anyhow, bail, Result};
 use hyper::body::HttpBody;
-use hyper::client::HttpConnector;
 use hyper::{Body, Client, Request, Response, Uri};
 use serde_json::{json, Value};
 use thiserror::Error;
 use tokio::sync::Notify;
 use tokio::time::{sleep, timeout};
+
+use crate::identity::{Identity, Role};
+use crate::transport::Connector;
 
 /// A member has so long to answer.
 const PATIENCE: Duration = Duration::from_millis(400);
@@ -78,22 +80,21 @@ pub struct Outcome {
 /// The members of one etcd.
 #[derive(Clone)]
 pub struct Etcd {
-    client: Client<HttpConnector>,
+    client: Client<Connector>,
     members: Arc<Vec<String>>,
     at: Arc<AtomicUsize>,
     patience: Duration,
 }
 
 impl Etcd {
-    /// Members by their URLs. Without certificates they are on this machine.
-    pub fn new(urls: &[String]) -> Result<Etcd> {
+    /// Members by their URLs. Without certificates they are on this machine, and with certificates their URLs are of https.
+    pub fn new(urls: &[String], identity: Option<Arc<Identity>>) -> Result<Etcd> {
         if urls.is_empty() {
             bail!("no URL of etcd is given");
         }
-        let members = urls.iter().map(|url| loopback(url)).collect::<Result<Vec<_>>>()?;
-        let mut connector = HttpConnector::new();
-        connector.set_nodelay(true);
-        connector.set_connect_timeout(Some(PATIENCE));
+        let test = if identity.is_some() { secured } else { loopback };
+        let members = urls.iter().map(|url| test(url)).collect::<Result<Vec<_>>>()?;
+        let connector = Connector::new(identity, Role::Etcd, PATIENCE);
         let at = rand::random::<usize>() % members.len();
         let client = Client::builder().pool_max_idle_per_host(2).build(connector);
         Ok(Etcd { client, members: Arc::new(members), at: Arc::new(AtomicUsize::new(at)), patience: FIRST_PATIENCE })
@@ -194,15 +195,23 @@ pub fn behind(prefix: &str) -> String {
     String::from_utf8_lossy(&bytes).into_owned()
 }
 
+fn secured(url: &str) -> Result<String> {
+    let uri: Uri = url.parse().map_err(|_| anyhow!("{url} is no URL"))?;
+    if uri.scheme_str() != Some("https") {
+        bail!("{url} isn't of https, and there are certificates");
+    }
+    Ok(url.trim_end_matches('/').to_string())
+}
+
 fn loopback(url: &str) -> Result<String> {
     let uri: Uri = url.parse().map_err(|_| anyhow!("{url} is no URL"))?;
     if uri.scheme_str() != Some("http") {
-        bail!("{url} isn't of http: there are no certificates yet, so etcd is on this machine");
+        bail!("{url} isn't of http: for https give --certificate, --key and --authority");
     }
     let host = uri.host().unwrap_or_default().trim_start_matches('[').trim_end_matches(']');
     let is_here = host == "localhost" || host.parse::<IpAddr>().is_ok_and(|address| address.is_loopback());
     if !is_here {
-        bail!("{url} isn't on this machine: without certificates, which aren't there yet, etcd has a loopback address");
+        bail!("{url} isn't on this machine: without certificates (--certificate) etcd has a loopback address");
     }
     Ok(url.trim_end_matches('/').to_string())
 }
@@ -301,9 +310,10 @@ mod tests {
 
     #[test]
     fn other_machines_are_refused() {
-        let refused = |url: &str| Etcd::new(&[url.to_string()]).is_err();
+        let refused = |url: &str| Etcd::new(&[url.to_string()], None).is_err();
         assert!(refused("http://10.0.0.1:2379") && refused("https://127.0.0.1:2379") && refused("x y"));
         assert!(!refused("http://127.0.0.1:2379") && !refused("http://[::1]:2379/") && !refused("http://localhost:1"));
-        assert!(Etcd::new(&[]).is_err());
+        assert!(Etcd::new(&[], None).is_err());
+        assert!(secured("http://127.0.0.1:2379").is_err() && secured("https://10.0.0.1:2379/").is_ok());
     }
 }

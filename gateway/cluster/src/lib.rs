@@ -2,11 +2,14 @@
 //!
 //! A node (`node`) runs one `cq server` (`child`, `commands`) and carries what it puts to the others by links (`link`,
 //! `wire`). A candidate for the master (`master`) appends lines (`decision`, of what `silence` and `roster` say) to a log
-//! in etcd (`etcd`, `records`); `cut` says which links carry nothing. The node of the head starts the gateway that acts (`node/gateway`, `pipe`), and fronts find
-//! it (`acting`). Two rules are kept: no clock and no lease is part of what keeps data safe, and a server
+//! in etcd (`etcd`, `records`); `cut` says which links carry nothing. The node of the head starts the gateway that acts
+//! (`node/gateway`, `pipe`), and fronts find it (`acting`). Who is at the other end of a connection (`transport`) is known by
+//! certificates (`identity`, `pem`), which `certificates` makes. Two rules are kept: no clock and no lease is part of what keeps data safe, and a server
 //! ends only because the log says so, or by a fault of its own.
 
 pub mod acting;
+mod addresses;
+mod certificates;
 mod child;
 mod clock;
 pub mod command_line;
@@ -14,16 +17,19 @@ mod commands;
 mod cut;
 mod decision;
 mod etcd;
+pub mod identity;
 mod link;
 mod master;
 pub mod memory;
 mod node;
 pub mod parts;
+pub mod pem;
 pub mod pipe;
 mod records;
 mod roster;
 mod silence;
 mod status;
+pub mod transport;
 mod up;
 mod wire;
 

@@ -2,15 +2,11 @@
 
 use std::collections::VecDeque;
 use std::io;
-use std::net::SocketAddr;
 use std::sync::atomic::{AtomicBool, Ordering};
 use std::sync::{Arc, Mutex};
 use std::time::Duration;
 
 use bytes::Bytes;
-use tokio::io::AsyncWriteExt;
-use tokio::net::tcp::{OwnedReadHalf, OwnedWriteHalf};
-use tokio::net::TcpStream;
 use tokio::sync::Notify;
 use tokio::time::{interval, sleep, timeout, MissedTickBehavior};
 
@@ -18,6 +14,8 @@ use crate::commands::Place;
 use crate::lock;
 use crate::node::{Event, Shared};
 use crate::parts::{Frames, FRAME_LIMIT};
+use crate::records::Registration;
+use crate::transport::{self, Reading, Writing};
 use crate::wire::Frame;
 
 /// A connection on which nothing comes back for so long is made anew.
@@ -146,22 +144,24 @@ impl Link {
     }
 
     async fn keep(self: Arc<Link>, node: Arc<Shared>) {
-        let mut was_up = true;
+        let mut said = String::new();
         while !self.is_closed() {
-            if let Some(address) = node.address(self.to) {
-                let (is_up, error) = self.connect(address, &node).await;
-                if is_up || was_up {
+            if let Some(registration) = node.registration(self.to) {
+                let (was_up, error) = self.connect(&registration, &node).await;
+                // It is tried again and again, and a reason is told once.
+                let why = error.to_string();
+                if was_up || why != said {
                     tracing::info!(to = self.to, %error, "a link is down");
                 }
-                was_up = is_up;
+                said = why;
             }
             sleep(PAUSE).await;
         }
     }
 
     /// Carries frames by one connection until that breaks, and says whether it was there, and why it broke.
-    async fn connect(&self, address: SocketAddr, node: &Shared) -> (bool, io::Error) {
-        match self.greet(address, node).await {
+    async fn connect(&self, registration: &Registration, node: &Shared) -> (bool, io::Error) {
+        match self.greet(registration, node).await {
             Ok((received, reading, writing)) => {
                 tracing::info!(to = self.to, received, "a link is up");
                 let ended = tokio::select! {
@@ -174,16 +174,11 @@ impl Link {
         }
     }
 
-    async fn greet(
-        &self,
-        address: SocketAddr,
-        node: &Shared,
-    ) -> io::Result<(u64, Frames<OwnedReadHalf>, OwnedWriteHalf)> {
-        let connection = timeout(CONNECTING, TcpStream::connect(address)).await??;
-        connection.set_nodelay(true)?;
-        let (reading, mut writing) = connection.into_split();
+    async fn greet(&self, registration: &Registration, node: &Shared) -> io::Result<(u64, Frames<Reading>, Writing)> {
+        let connecting = transport::connect(node.cluster.identity.as_deref(), registration);
+        let (reading, mut writing) = timeout(CONNECTING, connecting).await??;
         let mut reading = Frames::new(reading, FRAME_LIMIT);
-        timeout(QUIET, writing.write_all(&node.greeting(self.to).bytes())).await??;
+        timeout(QUIET, transport::write(&mut writing, &node.greeting(self.to).bytes())).await??;
         match read(&mut reading).await? {
             Frame::Welcome { received, gone } => {
                 node.tell(Event::Learned(gone));
@@ -195,21 +190,21 @@ impl Link {
         }
     }
 
-    async fn write(&self, received: u64, mut writing: OwnedWriteHalf, node: &Shared) -> io::Result<()> {
+    async fn write(&self, received: u64, mut writing: Writing, node: &Shared) -> io::Result<()> {
         let mut sent = received;
         let mut pings = interval(PING);
         pings.set_missed_tick_behavior(MissedTickBehavior::Delay);
         while !self.is_closed() {
             let (last, bytes) = self.behind(sent);
             if !bytes.is_empty() {
-                timeout(QUIET, writing.write_all(&bytes)).await??;
+                timeout(QUIET, transport::write(&mut writing, &bytes)).await??;
                 sent = last;
             }
             tokio::select! {
                 biased;
                 _ = pings.tick() => {
                     let ping = Frame::Ping { time: node.now() }.bytes();
-                    timeout(QUIET, writing.write_all(&ping)).await??;
+                    timeout(QUIET, transport::write(&mut writing, &ping)).await??;
                 }
                 _ = self.wake.notified(), if bytes.is_empty() => {}
                 _ = std::future::ready(()), if !bytes.is_empty() => {}
@@ -218,7 +213,7 @@ impl Link {
         Ok(())
     }
 
-    async fn read(&self, mut reading: Frames<OwnedReadHalf>, node: &Shared) -> io::Result<()> {
+    async fn read(&self, mut reading: Frames<Reading>, node: &Shared) -> io::Result<()> {
         loop {
             match read(&mut reading).await? {
                 Frame::Received { frame } => self.received(frame, node)?,
@@ -229,7 +224,7 @@ impl Link {
     }
 }
 
-async fn read(reading: &mut Frames<OwnedReadHalf>) -> io::Result<Frame> {
+async fn read(reading: &mut Frames<Reading>) -> io::Result<Frame> {
     let bytes = timeout(QUIET, reading.next()).await??;
     Frame::read(bytes).map_err(|malformed| other(&malformed.to_string()))
 }

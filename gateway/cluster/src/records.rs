@@ -1,12 +1,14 @@
 //! What stands in etcd: the keys of a cluster, and their values in JSON.
 
 use std::net::SocketAddr;
+use std::sync::Arc;
 
 use anyhow::{anyhow, bail, Context, Result};
 use bytes::Bytes;
 use serde::{Deserialize, Serialize};
 
 use crate::etcd::{behind, Entry, Etcd, Guard, Operation};
+use crate::identity::{Fingerprint, Identity};
 
 /// The version of all that is here.
 const VERSION: u32 = 1;
@@ -22,6 +24,14 @@ pub struct Settings {
     pub incarnation: String,
     /// How many servers its first chain has.
     pub servers: u32,
+    /// Whether all of its processes have certificates.
+    #[serde(default, skip_serializing_if = "is_false")]
+    pub has_certificates: bool,
+}
+
+/// Whether a field says nothing, so that it isn't written.
+fn is_false(flag: &bool) -> bool {
+    !flag
 }
 
 /// The chain behind a line of the master's log.
@@ -132,6 +142,9 @@ pub struct Registration {
     /// Where its gateway listens once its server is the head, if it has one.
     #[serde(default, skip_serializing_if = "Option::is_none")]
     pub gateway: Option<SocketAddr>,
+    /// The certificate that it shows, and its gateway too, where there are certificates.
+    #[serde(default, skip_serializing_if = "Option::is_none")]
+    pub certificate: Option<Fingerprint>,
     /// Messages may use so many bytes there; 0 where it says nothing of that.
     #[serde(default, skip_serializing_if = "is_zero")]
     pub memory: u64,
@@ -270,12 +283,14 @@ pub struct Cluster {
     pub etcd: Etcd,
     pub settings: Settings,
     pub keys: Keys,
+    /// What this process is known by, where there are certificates.
+    pub identity: Option<Arc<Identity>>,
 }
 
 impl Cluster {
     /// Finds the cluster, or says that there is none.
-    pub async fn find(name: &str, urls: &[String]) -> Result<Cluster> {
-        let etcd = Etcd::new(urls)?;
+    pub async fn find(name: &str, urls: &[String], identity: Option<Arc<Identity>>) -> Result<Cluster> {
+        let etcd = Etcd::new(urls, identity.clone())?;
         test_name(name)?;
         let key = Keys::new(name, "").cluster;
         let read = etcd.transact(&[], &[Operation::Get(key)], &[]).await?.read;
@@ -285,15 +300,21 @@ impl Cluster {
         if settings.version != VERSION {
             bail!("cluster {name} is of version {}, and this program of version {VERSION}", settings.version);
         }
+        match (settings.has_certificates, &identity) {
+            (true, None) => bail!("cluster {name} has certificates: give --certificate, --key and --authority"),
+            (false, Some(_)) => bail!("cluster {name} was created without certificates, and is used without them"),
+            _ => {}
+        }
         let keys = Keys::new(name, &settings.incarnation);
-        Ok(Cluster { name: name.into(), etcd, settings, keys })
+        Ok(Cluster { name: name.into(), etcd, settings, keys, identity })
     }
 
-    /// Makes a cluster whose first chain has so many servers.
-    pub async fn create(name: &str, urls: &[String], servers: u32) -> Result<Cluster> {
-        let etcd = Etcd::new(urls)?;
+    /// Makes a cluster whose first chain has so many servers. Who has a certificate makes one whose processes all have some.
+    pub async fn create(name: &str, urls: &[String], identity: Option<Arc<Identity>>, servers: u32) -> Result<Cluster> {
+        let etcd = Etcd::new(urls, identity.clone())?;
         test_name(name)?;
-        let settings = Settings { version: VERSION, incarnation: random_name(), servers };
+        let has_certificates = identity.is_some();
+        let settings = Settings { version: VERSION, incarnation: random_name(), servers, has_certificates };
         let keys = Keys::new(name, &settings.incarnation);
         let members: Vec<u32> = (1..=servers).collect();
         let full = members.clone();
@@ -309,7 +330,7 @@ impl Cluster {
         if !outcome.succeeded && !is_own() {
             bail!("there is a cluster {name} already");
         }
-        Ok(Cluster { name: name.into(), etcd, settings, keys })
+        Ok(Cluster { name: name.into(), etcd, settings, keys, identity })
     }
 
     /// For who tries again and again.
@@ -362,9 +383,11 @@ mod tests {
     #[test]
     fn a_node_without_a_gateway_says_nothing_of_one() {
         let address = "127.0.0.1:7001".parse().unwrap();
-        let without = Registration { nonce: "n".into(), address, gateway: None, memory: 0 };
+        let without = Registration { nonce: "n".into(), address, gateway: None, certificate: None, memory: 0 };
         assert_eq!(text(&without), r#"{"nonce":"n","address":"127.0.0.1:7001"}"#);
-        let with = Registration { gateway: Some(address), ..without.clone() };
+        let certificate = Some(Fingerprint::of(&rustls::Certificate(vec![])));
+        let with = Registration { gateway: Some(address), certificate, ..without.clone() };
+        assert!(text(&with).ends_with(r#"7852b855"}"#), "{}", text(&with));
         for one in [without, with] {
             assert_eq!(serde_json::from_str::<Registration>(&text(&one)).unwrap(), one);
         }

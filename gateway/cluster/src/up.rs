@@ -4,6 +4,7 @@ use std::fs::{self, File};
 use std::net::{Ipv4Addr, TcpListener};
 use std::path::{Path, PathBuf};
 use std::process::{Child, Command, Stdio};
+use std::sync::Arc;
 use std::time::{Duration, Instant};
 
 use anyhow::{bail, Context, Result};
@@ -11,7 +12,9 @@ use tokio::net::TcpStream;
 use tokio::signal::unix::{signal, SignalKind};
 use tokio::time::sleep;
 
+use crate::certificates::{self, Wanted};
 use crate::child::end_with_this_process;
+use crate::identity::{Identity, IdentityFiles, Role};
 use crate::memory::usual_bound;
 use crate::records::Cluster;
 use crate::{say, status};
@@ -42,42 +45,58 @@ impl Drop for Process {
     }
 }
 
+/// What is to go up.
+pub struct Settings {
+    pub nodes: u32,
+    /// For etcd, for what the processes say, and for certificates.
+    pub folder: PathBuf,
+    /// The program cq.
+    pub program: String,
+    pub gateway_config: Option<PathBuf>,
+    /// Whether certificates are made and used.
+    pub certificates: bool,
+}
+
 /// Starts etcd, two candidates for the master, so many nodes with gateways, and a front, in a folder, and runs until a signal
 /// comes.
-pub async fn up(nodes: u32, folder: &Path, program: &str, gateway_config: Option<&Path>) -> Result<()> {
+pub async fn up(settings: &Settings) -> Result<()> {
+    let Settings { nodes, folder, program, gateway_config, .. } = settings;
     let mut interrupts = signal(SignalKind::interrupt())?;
     let mut terminations = signal(SignalKind::terminate())?;
     make_folder(folder)?;
+    let shown = make_certificates(settings)?;
     let (clients, peers) = (free_port()?, free_port()?);
-    let url = format!("http://127.0.0.1:{clients}");
+    let url = format!("{}://127.0.0.1:{clients}", if settings.certificates { "https" } else { "http" });
     let urls = [url.clone()];
-    let mut processes = vec![start_etcd(folder, &url, peers)?];
-    create(&urls, nodes).await?;
+    let mut processes = vec![start_etcd(folder, &url, peers, &shown)?];
+    let identity = shown.files("master").identity(NAME, &[Role::Master])?;
+    create(&urls, identity.as_ref(), *nodes).await?;
     let this = std::env::current_exe()?;
-    let command = |words: &[&str]| {
+    let command = |words: &[&str], name: &str| {
         let mut command = Command::new(&this);
-        command.args(words).args(["--cluster", NAME, "--etcd", &url, "--cq", program]);
+        command.args(words).args(["--cluster", NAME, "--etcd", &url, "--cq", program]).args(shown.words(name));
         command
     };
     // All nodes share this machine.
-    let memory = (usual_bound().0 / u64::from(nodes)).max(1).to_string();
-    for number in 1..=nodes {
-        let (first, gateway) = (number.to_string(), format!("127.0.0.1:{}", free_port()?));
-        let mut node = command(&["node", "--listen", "127.0.0.1:0", "--first", &first, "--gateway", &gateway]);
+    let memory = (usual_bound().0 / u64::from(*nodes)).max(1).to_string();
+    for number in 1..=*nodes {
+        let (name, first, gateway) = (node(number), number.to_string(), format!("127.0.0.1:{}", free_port()?));
+        let words = ["node", "--listen", "127.0.0.1:0", "--first", &first, "--gateway", &gateway];
+        let mut node = command(&words, &name);
         node.args(["--memory", &memory]);
         if let Some(config) = gateway_config {
             node.arg("--gateway-config").arg(config);
         }
-        processes.push(begin(node, folder, &format!("node-{number}"))?);
+        processes.push(begin(node, folder, &name)?);
     }
     for number in 1..=2 {
-        processes.push(begin(command(&["master"]), folder, &format!("master-{number}"))?);
+        processes.push(begin(command(&["master"], "master"), folder, &format!("master-{number}"))?);
     }
     let front = free_port()?;
     let words = ["serve", "--host", "127.0.0.1", "--port", &front.to_string()];
-    processes.push(begin(command(&words), folder, "front")?);
-    let cluster = Cluster::find(NAME, &urls).await?;
-    tell_of(&cluster, nodes, &url, folder, &mut processes).await?;
+    processes.push(begin(command(&words, "front"), folder, "front")?);
+    let cluster = Cluster::find(NAME, &urls, identity).await?;
+    tell_of(&cluster, *nodes, &url, folder, &shown, &mut processes).await?;
     wait_for(front, folder).await?;
     say(&format!("to send requests: http://127.0.0.1:{front}"));
     say("the cluster is up, until this is interrupted");
@@ -95,6 +114,59 @@ pub async fn up(nodes: u32, folder: &Path, program: &str, gateway_config: Option
     }
     say("the cluster is down");
     Ok(())
+}
+
+fn node(number: u32) -> String {
+    format!("node-{number}")
+}
+
+/// The certificates, where there are any.
+struct Shown(Option<PathBuf>);
+
+impl Shown {
+    /// Those of a process.
+    fn files(&self, name: &str) -> IdentityFiles {
+        let file = |name: &str| self.0.as_ref().map(|folder| folder.join(name));
+        IdentityFiles {
+            certificate: file(&format!("{name}.pem")),
+            key: file(&format!("{name}.key")),
+            authority: file("authority.pem"),
+        }
+    }
+
+    /// What a process is told of its own.
+    fn words(&self, name: &str) -> Vec<String> {
+        let IdentityFiles { certificate, key, authority } = self.files(name);
+        let given = [("--certificate", certificate), ("--key", key), ("--authority", authority)];
+        let words = |(option, file): (&str, Option<PathBuf>)| Some([option.to_string(), file?.display().to_string()]);
+        given.into_iter().filter_map(words).flatten().collect()
+    }
+
+    /// Behind the words that a user is told.
+    fn said(&self, name: &str) -> String {
+        self.words(name).iter().map(|word| format!(" {word}")).collect()
+    }
+}
+
+/// An authority, and a certificate for each process; for one node more, too.
+fn make_certificates(settings: &Settings) -> Result<Shown> {
+    if !settings.certificates {
+        return Ok(Shown(None));
+    }
+    let folder = settings.folder.join("certificates");
+    let wanted = |role: Option<Role>, name: Option<String>| {
+        let address = if role == Some(Role::Etcd) { vec!["127.0.0.1".into()] } else { Vec::new() };
+        let role = role.into_iter().collect();
+        Wanted { cluster: NAME.into(), folder: folder.clone(), role, name, address, days: None }
+    };
+    certificates::make(&wanted(None, None))?;
+    for role in [Role::Etcd, Role::Master, Role::Front] {
+        certificates::make(&wanted(Some(role), None))?;
+    }
+    for number in 1..=settings.nodes + 1 {
+        certificates::make(&wanted(Some(Role::Node), Some(node(number))))?;
+    }
+    Ok(Shown(Some(folder)))
 }
 
 fn goes_on(process: &mut Process) -> bool {
@@ -125,7 +197,7 @@ fn free_port() -> Result<u16> {
     Ok(TcpListener::bind((Ipv4Addr::LOCALHOST, 0))?.local_addr()?.port())
 }
 
-fn start_etcd(folder: &Path, url: &str, peers: u16) -> Result<Process> {
+fn start_etcd(folder: &Path, url: &str, peers: u16, shown: &Shown) -> Result<Process> {
     let peer = format!("http://127.0.0.1:{peers}");
     let mut command = Command::new("etcd");
     command.arg("--data-dir").arg(folder.join("etcd")).args([
@@ -140,6 +212,12 @@ fn start_etcd(folder: &Path, url: &str, peers: u16) -> Result<Process> {
         "--logger=zap",
         "--log-level=warn",
     ]);
+    if let IdentityFiles { certificate: Some(certificate), key: Some(key), authority: Some(authority) } =
+        shown.files("etcd")
+    {
+        command.arg("--cert-file").arg(certificate).arg("--key-file").arg(key);
+        command.arg("--trusted-ca-file").arg(authority).arg("--client-cert-auth");
+    }
     begin(command, folder, "etcd").context("etcd is Debian's package etcd-server")
 }
 
@@ -153,10 +231,10 @@ fn begin(mut command: Command, folder: &Path, name: &str) -> Result<Process> {
     Ok(Process { name: name.into(), child })
 }
 
-async fn create(urls: &[String], nodes: u32) -> Result<()> {
+async fn create(urls: &[String], identity: Option<&Arc<Identity>>, nodes: u32) -> Result<()> {
     let begun = Instant::now();
     loop {
-        match Cluster::create(NAME, urls, nodes).await {
+        match Cluster::create(NAME, urls, identity.cloned(), nodes).await {
             Ok(_) => return Ok(()),
             Err(error) if begun.elapsed() > ETCD => return Err(error.context("etcd doesn't begin")),
             Err(_) => sleep(Duration::from_millis(100)).await,
@@ -164,7 +242,14 @@ async fn create(urls: &[String], nodes: u32) -> Result<()> {
     }
 }
 
-async fn tell_of(cluster: &Cluster, nodes: u32, url: &str, folder: &Path, processes: &mut [Process]) -> Result<()> {
+async fn tell_of(
+    cluster: &Cluster,
+    nodes: u32,
+    url: &str,
+    folder: &Path,
+    shown: &Shown,
+    processes: &mut [Process],
+) -> Result<()> {
     let begun = Instant::now();
     loop {
         for process in &mut *processes {
@@ -182,10 +267,12 @@ async fn tell_of(cluster: &Cluster, nodes: u32, url: &str, folder: &Path, proces
             bail!("the nodes don't begin: {} has what they say", folder.display());
         }
     }
-    say(&format!("to look at it: hobbychair cluster status --cluster {NAME} --etcd {url}"));
+    let files = shown.said("master");
+    say(&format!("to look at it: hobbychair cluster status --cluster {NAME} --etcd {url}{files}"));
     let port = free_port()?;
+    let files = shown.said(&node(nodes + 1));
     say(&format!(
-        "to add a node: hobbychair node --cluster {NAME} --etcd {url} --listen 127.0.0.1:0 --gateway 127.0.0.1:{port} --join"
+        "to add a node: hobbychair node --cluster {NAME} --etcd {url} --listen 127.0.0.1:0 --gateway 127.0.0.1:{port} --join{files}"
     ));
     Ok(())
 }

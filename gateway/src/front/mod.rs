@@ -13,6 +13,7 @@ use std::time::Duration;
 use anyhow::{Context, Result};
 use bytes::Bytes;
 use hobbychair_cluster::acting::Follower;
+use hobbychair_cluster::identity::{IdentityFiles, Role};
 use hyper::header::{HeaderValue, CONNECTION};
 use hyper::server::conn::Http;
 use hyper::service::service_fn;
@@ -51,6 +52,8 @@ pub struct Settings {
     pub cluster: String,
     /// The members of etcd.
     pub etcd: Vec<String>,
+    /// Its certificate, where the cluster has some.
+    pub files: IdentityFiles,
     pub host: String,
     pub port: u16,
     /// Everybody is served also from other machines.
@@ -76,13 +79,14 @@ pub async fn serve(settings: Settings) -> Result<()> {
     let places = Places::for_front(settings.connections)?;
     let figures = Arc::new(Figures::new()?);
     let operators = settings.admin.as_ref().map(listen_for_operators).transpose()?;
-    let follower = Follower::begin(&settings.cluster, &settings.etcd).await?;
+    let identity = settings.files.identity(&settings.cluster, &[Role::Front, Role::Node])?;
+    let follower = Follower::begin(&settings.cluster, &settings.etcd, identity.clone()).await?;
     if let Some(listener) = operators {
         let told = Operators { figures: figures.clone(), follower: follower.clone() };
         let answer = move |request| std::future::ready((told.answer(&request), None));
         tokio::spawn(serve_operators(listener, places.operators, Hosts::new(&[], None), answer));
     }
-    let passing = Passing::new(follower, figures.clone());
+    let passing = Passing::new(follower, identity, figures.clone());
     let front = Arc::new(Front { passing, figures, budget: Budget::new(settings.request_memory) });
     let (end, ending) = End::new();
     let mut served = tokio::spawn(front.serve(listener, places.served, ending));

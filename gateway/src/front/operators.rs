@@ -136,7 +136,8 @@ mod tests {
         let (tell, follower) = Follower::for_tests();
         let operators = Operators { figures: Arc::new(Figures::new().unwrap()), follower };
         assert_eq!(get(&operators, "/health").0, 503);
-        tell.send_replace(Some(Acting { server: 3, address: "127.0.0.1:9".parse().unwrap() }));
+        let address = "127.0.0.1:9".parse().unwrap();
+        tell.send_replace(Some(Acting { server: 3, address, certificate: None }));
         assert_eq!(get(&operators, "/health"), (200, "serving by the gateway of server 3\n".into()));
         let open = operators.figures.passes();
         operators.figures.is_asked_again();

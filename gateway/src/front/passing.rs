@@ -8,9 +8,10 @@ use std::time::Duration;
 
 use bytes::{Bytes, BytesMut};
 use hobbychair_cluster::acting::{Acting, Follower};
+use hobbychair_cluster::identity::{Identity, Role};
+use hobbychair_cluster::transport::Connector;
 use hyper::body::HttpBody;
-use hyper::client::HttpConnector;
-use hyper::{Body, Client, Request, Response, StatusCode};
+use hyper::{Body, Client, Request, Response, StatusCode, Uri};
 use thiserror::Error;
 use tokio::sync::Mutex;
 use tokio::time::{sleep_until, timeout, Instant};
@@ -72,7 +73,7 @@ struct Wanted {
 /// Passes requests on to whichever gateway acts.
 pub struct Passing {
     follower: Follower,
-    client: Client<HttpConnector, Body>,
+    client: Client<Connector, Body>,
     times: Times,
     figures: Arc<Figures>,
     /// Held by the one who asks for the time.
@@ -80,10 +81,12 @@ pub struct Passing {
 }
 
 impl Passing {
-    pub fn new(follower: Follower, figures: Arc<Figures>) -> Passing {
-        let mut connector = HttpConnector::new();
-        connector.set_nodelay(true);
-        connector.set_connect_timeout(Some(CONNECTING));
+    /// Where there are certificates, a gateway is asked only if it shows the one that its node has registered.
+    pub fn new(follower: Follower, identity: Option<Arc<Identity>>, figures: Arc<Figures>) -> Passing {
+        let known = follower.clone();
+        let connector = Connector::new(identity, Role::Node, CONNECTING).to_registered(move |uri| {
+            known.acting().filter(|acting| is_at(uri, acting)).map(|acting| acting.certificate)
+        });
         // What a client doesn't say of the host, nobody says in its place.
         let client = Client::builder().set_host(false).pool_idle_timeout(IDLE).build(connector);
         Passing { follower, client, times: Times::default(), figures, asking: Mutex::default() }
@@ -196,6 +199,11 @@ impl Passing {
         }
         Ok(Response::from_parts(head, whole.freeze()))
     }
+}
+
+/// Whether that gateway is the one at an address.
+fn is_at(uri: &Uri, acting: &Acting) -> bool {
+    uri.authority().is_some_and(|authority| authority.as_str() == acting.address.to_string())
 }
 
 #[cfg(test)]

@@ -7,6 +7,7 @@ use std::sync::Arc;
 use std::time::Duration;
 
 use bytes::Bytes;
+use hobbychair_cluster::identity::{Identity, Role};
 use hyper::header::{HeaderValue, CONNECTION};
 use hyper::server::conn::Http;
 use hyper::service::service_fn;
@@ -15,6 +16,7 @@ use tokio::io::{AsyncRead, AsyncWrite};
 use tokio::net::{TcpListener, TcpSocket, TcpStream};
 use tokio::sync::{OwnedSemaphorePermit, Semaphore};
 use tokio::time::{timeout, Instant};
+use tokio_rustls::server::TlsStream;
 
 use super::places::Places;
 use super::watched::{Progress, Watched};
@@ -62,6 +64,8 @@ fn listen_at(address: SocketAddr) -> io::Result<TcpListener> {
 pub struct Door {
     pub service: Arc<Service>,
     pub certificate: Option<Arc<Certificate>>,
+    /// What the fronts of a cluster are shown, where they alone are served.
+    pub identity: Option<Arc<Identity>>,
     /// How many are served at once, and how many above that are told so at once. More wait until these have ended.
     pub places: Places,
 }
@@ -103,6 +107,19 @@ impl Door {
         // Where this fails, small answers wait a little longer.
         let _ = stream.set_nodelay(true);
         let socket = stream.as_raw_fd();
+        if let Some(identity) = &self.identity {
+            let shaken = tokio::select! {
+                shaken = timeout(LONGEST_HANDSHAKE, take_in(identity, stream)) => shaken,
+                () = ending.comes() => return,
+            };
+            return match shaken {
+                Ok(Ok(stream)) => Box::pin(self.converse(stream, socket, peer, is_served, ending)).await,
+                // Somebody looked whether the port is open.
+                Ok(Err(error)) if error.kind() == io::ErrorKind::UnexpectedEof => {}
+                Ok(Err(error)) => tracing::warn!(%peer, %error, "who is no front of the cluster is refused"),
+                Err(_) => tracing::warn!(%peer, "who says nothing is refused"),
+            };
+        }
         let Some(certificate) = &self.certificate else {
             return self.converse(stream, socket, peer, is_served, ending).await;
         };
@@ -146,6 +163,14 @@ impl Door {
             tracing::debug!(%peer, "a connection ended: {error}");
         }
     }
+}
+
+/// Takes in a front of the cluster. A node may be one, too.
+async fn take_in(identity: &Identity, stream: TcpStream) -> io::Result<TlsStream<TcpStream>> {
+    let (stream, peer) = identity.accept(stream).await?;
+    let refused = |why| io::Error::new(io::ErrorKind::InvalidData, why);
+    peer.test(&[Role::Front, Role::Node]).map_err(refused)?;
+    Ok(stream)
 }
 
 /// Answers a request.

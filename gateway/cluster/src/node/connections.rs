@@ -7,15 +7,16 @@ use std::sync::{Arc, Mutex};
 use std::time::{Duration, Instant};
 
 use bytes::Bytes;
-use tokio::io::{AsyncWrite, AsyncWriteExt};
-use tokio::net::tcp::{OwnedReadHalf, OwnedWriteHalf};
+use tokio::io::AsyncWrite;
 use tokio::net::{TcpListener, TcpStream};
 use tokio::sync::mpsc::{unbounded_channel, UnboundedReceiver, UnboundedSender};
 use tokio::sync::{oneshot, Notify};
 use tokio::time::{sleep, timeout};
 
+use crate::identity::{Peer, Role};
 use crate::lock;
 use crate::parts::{Frames, FRAME_LIMIT};
+use crate::transport::{self, Reading, Writing};
 use crate::wire::{About, Frame, GREETING_LIMIT};
 
 use super::streams::Work;
@@ -208,29 +209,29 @@ pub async fn accept(listener: TcpListener, node: Arc<Shared>) {
 }
 
 async fn serve(connection: TcpStream, stranger: Stranger, node: &Arc<Shared>) -> io::Result<()> {
-    connection.set_nodelay(true)?;
-    let (reading, writing) = connection.into_split();
-    let mut reading = Frames::new(reading, GREETING_LIMIT);
-    let greeting = tokio::select! {
-        greeting = timeout(GREETING, reading.next()) => greeting?,
+    let greeted = tokio::select! {
+        greeted = timeout(GREETING, greet(connection, node)) => greeted?,
         () = stranger.is_over.notified() => return Ok(()),
     };
-    let greeting = match greeting {
-        Ok(bytes) => Frame::read(bytes).map_err(|malformed| io::Error::new(io::ErrorKind::InvalidData, malformed))?,
+    let Greeted { peer, greeting, reading, writing } = match greeted {
+        Ok(greeted) => greeted,
         // Somebody looked whether the port is open.
         Err(error) if error.kind() == io::ErrorKind::UnexpectedEof => return Ok(()),
         Err(error) => return Err(error),
     };
     drop(stranger);
     let reading = reading.with_limit(FRAME_LIMIT);
+    if let Err(why) = peer.as_ref().map_or(Ok(()), |peer| peer.test(&[Role::Node])) {
+        return turn_away(writing, why).await;
+    }
     match greeting {
         Frame::Link { about, from, nonce, to, gone } => {
             let mut writing = writing;
-            match test_link(node, &about, from, &nonce, to) {
+            match test_link(node, &about, (from, &nonce, peer.as_ref()), to) {
                 Ok(true) => link(node, from, gone, reading, writing).await,
                 Ok(false) => {
                     let why = format!("server {from} isn't known here yet");
-                    timeout(QUIET, writing.write_all(&Frame::Away { why: why.clone() }.bytes())).await??;
+                    timeout(QUIET, transport::write(&mut writing, &Frame::Away { why: why.clone() }.bytes())).await??;
                     Err(io::Error::new(io::ErrorKind::NotConnected, why))
                 }
                 Err(why) => turn_away(writing, why).await,
@@ -245,6 +246,22 @@ async fn serve(connection: TcpStream, stranger: Stranger, node: &Arc<Shared>) ->
     }
 }
 
+/// A connection that has said whom it is about.
+struct Greeted {
+    /// Who made it, where there are certificates.
+    peer: Option<Peer>,
+    greeting: Frame,
+    reading: Frames<Reading>,
+    writing: Writing,
+}
+
+async fn greet(connection: TcpStream, node: &Shared) -> io::Result<Greeted> {
+    let (reading, writing, peer) = transport::accept(node.cluster.identity.as_deref(), connection).await?;
+    let mut reading = Frames::new(reading, GREETING_LIMIT);
+    let greeting = read(reading.next().await?)?;
+    Ok(Greeted { peer, greeting, reading, writing })
+}
+
 fn test_about(node: &Shared, about: &About) -> Result<(), String> {
     if *about == node.about() {
         return Ok(());
@@ -255,20 +272,29 @@ fn test_about(node: &Shared, about: &About) -> Result<(), String> {
     ))
 }
 
-/// Whether the sender of a link is known, or why it is turned away.
-fn test_link(node: &Shared, about: &About, from: u32, nonce: &str, to: u32) -> Result<bool, String> {
+/// Whether the sender of a link is known, or why it is turned away. It says its number and its nonce, and shows a certificate
+/// where there are any.
+fn test_link(
+    node: &Shared,
+    about: &About,
+    (from, nonce, peer): (u32, &str, Option<&Peer>),
+    to: u32,
+) -> Result<bool, String> {
     test_about(node, about)?;
     if to != node.id {
         return Err(format!("this is server {}, and not {to}", node.id));
     }
     match lock(&node.registrations).get(&from) {
         Some(registration) if registration.nonce != nonce => Err(format!("server {from} is another process")),
+        Some(registration) if registration.certificate != peer.map(Peer::fingerprint) => {
+            Err(format!("server {from} was registered with another certificate"))
+        }
         registration => Ok(registration.is_some()),
     }
 }
 
-async fn turn_away(mut writing: OwnedWriteHalf, why: String) -> io::Result<()> {
-    timeout(QUIET, writing.write_all(&Frame::Away { why: why.clone() }.bytes())).await??;
+async fn turn_away(mut writing: Writing, why: String) -> io::Result<()> {
+    timeout(QUIET, transport::write(&mut writing, &Frame::Away { why: why.clone() }.bytes())).await??;
     Err(other(&format!("it is turned away: {why}")))
 }
 
@@ -277,8 +303,8 @@ async fn link(
     node: &Arc<Shared>,
     from: u32,
     gone: Vec<u32>,
-    mut reading: Frames<OwnedReadHalf>,
-    mut writing: OwnedWriteHalf,
+    mut reading: Frames<Reading>,
+    mut writing: Writing,
 ) -> io::Result<()> {
     let (reply, replied) = oneshot::channel();
     node.tell(Event::Linking { from, gone, reply });
@@ -286,7 +312,7 @@ async fn link(
     // A server that was detected, and doesn't know it, reads here that it is gone.
     let received = linked.as_ref().map_or(0, |linked| linked.received);
     let welcome = Frame::Welcome { received, gone: node.all_gone() };
-    timeout(QUIET, writing.write_all(&welcome.bytes())).await??;
+    timeout(QUIET, transport::write(&mut writing, &welcome.bytes())).await??;
     let Some(Linked { connection, acknowledging, .. }) = linked else {
         return Err(other(&format!("server {from} was detected")));
     };
@@ -310,7 +336,7 @@ async fn link(
                 return Err(other("its server was detected, or it has another connection"));
             }
             let frame = acknowledging.received.load(Ordering::Acquire);
-            timeout(QUIET, writing.write_all(&Frame::Received { frame }.bytes())).await??;
+            timeout(QUIET, transport::write(&mut writing, &Frame::Received { frame }.bytes())).await??;
         }
     };
     let ended: io::Result<()> = tokio::select! { ended = read => ended, ended = write => ended };
@@ -322,8 +348,8 @@ async fn link(
 async fn client(
     node: &Arc<Shared>,
     wants: std::ops::RangeInclusive<u32>,
-    mut reading: Frames<OwnedReadHalf>,
-    writing: OwnedWriteHalf,
+    mut reading: Frames<Reading>,
+    writing: Writing,
 ) -> io::Result<()> {
     let client = CONNECTIONS.fetch_add(1, Ordering::Relaxed);
     let (frames, waiting_frames) = unbounded_channel();
@@ -360,11 +386,7 @@ async fn client(
     }
 }
 
-async fn write(
-    mut frames: UnboundedReceiver<Bytes>,
-    mut writing: OwnedWriteHalf,
-    waiting: &AtomicUsize,
-) -> io::Result<()> {
+async fn write(mut frames: UnboundedReceiver<Bytes>, mut writing: Writing, waiting: &AtomicUsize) -> io::Result<()> {
     while write_some(&mut frames, &mut writing, waiting).await? {}
     Err(other("the node let go of it"))
 }
@@ -380,7 +402,7 @@ pub async fn write_some(
     if let Ok(next) = frames.try_recv() {
         bytes = gather(&[bytes, next], frames);
     }
-    timeout(WRITING, writing.write_all(&bytes)).await??;
+    timeout(WRITING, transport::write(writing, &bytes)).await??;
     waiting.fetch_sub(bytes.len(), Ordering::Relaxed);
     Ok(true)
 }

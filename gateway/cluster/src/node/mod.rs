@@ -21,6 +21,7 @@ use tokio::signal::unix::{signal, Signal, SignalKind};
 use tokio::sync::mpsc::{unbounded_channel, UnboundedSender};
 use tokio::sync::{oneshot, Notify, Semaphore};
 
+use crate::addresses::{test_here, Place};
 use crate::child::{Child, Told};
 use crate::clock::{self, Clock};
 use crate::commands::Standing;
@@ -45,7 +46,7 @@ pub enum Beginning {
 
 /// What a node is told at its start.
 pub struct Settings {
-    pub listen: SocketAddr,
+    pub place: Place,
     pub beginning: Beginning,
     pub program: String,
     /// The gateway beside it, if it has one.
@@ -169,8 +170,9 @@ impl Shared {
         FromNode::Time { time: lock(&self.clock).now(since_start), since_start }
     }
 
-    pub fn address(&self, server: u32) -> Option<SocketAddr> {
-        lock(&self.registrations).get(&server).map(|registration| registration.address)
+    /// What is known of a server's process.
+    pub fn registration(&self, server: u32) -> Option<Registration> {
+        lock(&self.registrations).get(&server).cloned()
     }
 
     /// With what a link to a server begins.
@@ -196,22 +198,25 @@ impl Shared {
 
 /// Runs a node until the log says that it ends, or it fails.
 pub async fn run(cluster: Cluster, settings: Settings) -> Result<End> {
-    test_here(settings.listen, "a node")?;
-    let gateway = settings.gateway.as_ref().map(|gateway| gateway.listen);
-    if let Some(gateway) = gateway {
-        test_here(gateway, "its gateway")?;
-        if gateway.port() == 0 {
-            bail!("{gateway} has no port: fronts have to find the gateway there");
-        }
+    let has_certificates = cluster.identity.is_some();
+    let gateway = match &settings.gateway {
+        Some(gateway) => Some(find_gateway(&gateway.place, has_certificates).await?),
+        None => None,
+    };
+    let listen = settings.place.listen;
+    if !has_certificates {
+        test_here(listen, "a node")?;
     }
     if let Some(settings) = &settings.gateway {
-        gateway::test(settings).await?;
+        gateway::test(&cluster, settings).await?;
     }
-    let listener =
-        TcpListener::bind(settings.listen).await.with_context(|| format!("can't listen on {}", settings.listen))?;
-    let address = listener.local_addr()?;
+    let listener = TcpListener::bind(listen).await.with_context(|| format!("can't listen on {listen}"))?;
+    let local = listener.local_addr()?;
+    let address = settings.place.found_at(local, "a node", "--advertise", has_certificates).await?;
     let nonce = random_name();
-    let registration = Registration { nonce: nonce.clone(), address, gateway, memory: settings.limits.memory };
+    let certificate = cluster.identity.as_ref().map(|identity| identity.fingerprint());
+    let registration =
+        Registration { nonce: nonce.clone(), address, gateway, certificate, memory: settings.limits.memory };
     let id = register(&cluster, settings.beginning, &registration).await?;
     let (events, heard) = unbounded_channel();
     let child = start_child(&cluster, id, &settings, events.clone())?;
@@ -231,7 +236,8 @@ pub async fn run(cluster: Cluster, settings: Settings) -> Result<End> {
         clients: Semaphore::new(connections::MOST_CLIENTS),
         look: Arc::new(Notify::new()),
     });
-    say(&format!("server {id} listens on {address}"));
+    let found = if address == local { String::new() } else { format!(" and is found at {address}") };
+    say(&format!("server {id} listens on {local}{found}"));
     tracing::info!(server = id, %address, child = child.id(), "a node begins");
     let core = Core::new(node.clone(), child, settings.gateway, settings.trace.as_deref())?;
     for kind in [SignalKind::terminate(), SignalKind::interrupt()] {
@@ -243,11 +249,16 @@ pub async fn run(cluster: Cluster, settings: Settings) -> Result<End> {
     Ok(core.run(heard).await)
 }
 
-fn test_here(address: SocketAddr, whose: &str) -> Result<()> {
-    if !address.ip().is_loopback() {
-        bail!("{address} isn't on this machine: without certificates, which aren't there yet, {whose} has a loopback address");
+/// Where fronts find the gateway.
+async fn find_gateway(place: &Place, has_certificates: bool) -> Result<SocketAddr> {
+    let listen = place.listen;
+    if !has_certificates {
+        test_here(listen, "its gateway")?;
     }
-    Ok(())
+    if listen.port() == 0 {
+        bail!("{listen} has no port: fronts have to find the gateway there");
+    }
+    place.found_at(listen, "its gateway", "--advertise-gateway", has_certificates).await
 }
 
 fn start_child(cluster: &Cluster, id: u32, settings: &Settings, events: UnboundedSender<Event>) -> Result<Child> {

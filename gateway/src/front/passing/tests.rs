@@ -40,7 +40,7 @@ async fn gateway(server: u32, does: &'static [Does]) -> (Acting, UnboundedReceiv
             });
         }
     });
-    (Acting { server, address }, heads)
+    (Acting { server, address, certificate: None }, heads)
 }
 
 async fn converse(mut stream: TcpStream, next: impl Fn() -> Does, say: impl Fn(&str)) -> Option<()> {
@@ -70,7 +70,7 @@ async fn converse(mut stream: TcpStream, next: impl Fn() -> Does, say: impl Fn(&
 }
 
 fn passing_by(follower: Follower) -> Passing {
-    Passing::new(follower, Arc::new(Figures::new().unwrap()))
+    Passing::new(follower, None, Arc::new(Figures::new().unwrap()))
 }
 
 fn asked() -> Asked {

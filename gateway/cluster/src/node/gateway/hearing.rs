@@ -1,16 +1,16 @@
 //! Connections to the nodes of all other servers of the chain: answers come from the one that acts.
 
 use std::io;
-use std::net::SocketAddr;
 use std::sync::Arc;
 use std::time::Duration;
 
-use tokio::io::{AsyncRead, AsyncWrite, AsyncWriteExt};
-use tokio::net::TcpStream;
+use tokio::io::{AsyncRead, AsyncWrite};
 use tokio::sync::mpsc::{unbounded_channel, UnboundedReceiver};
 use tokio::time::{sleep, timeout};
 
 use crate::parts::{Frames, FRAME_LIMIT};
+use crate::records::Registration;
+use crate::transport;
 use crate::wire::Frame;
 
 use super::super::connections::{next_connection, other, read};
@@ -31,15 +31,17 @@ const WRITING: Duration = Duration::from_secs(2);
 
 /// Keeps a connection to a server's node until nobody wants it any more.
 pub async fn listen(server: u32, node: Arc<Shared>) {
-    let mut was_heard = true;
+    let mut said = String::new();
     loop {
-        if let Some(address) = node.address(server) {
+        if let Some(registration) = node.registration(server) {
             let connection = next_connection();
-            let (is_heard, error) = hear(server, connection, address, &node).await;
-            if is_heard || was_heard {
+            let (was_heard, error) = hear(server, connection, &registration, &node).await;
+            // It is tried again and again, and a reason is told once.
+            let why = error.to_string();
+            if was_heard || why != said {
                 tracing::info!(server, %error, "answers of a server aren't heard");
             }
-            was_heard = is_heard;
+            said = why;
             tell(&node, server, connection, Heard::Ended);
         }
         sleep(PAUSE).await;
@@ -51,14 +53,13 @@ fn tell(node: &Shared, server: u32, connection: u64, heard: Heard) {
 }
 
 /// Hears what comes over one connection, until that ends. Says whether there was one, and why it ended.
-async fn hear(server: u32, connection: u64, address: SocketAddr, node: &Shared) -> (bool, io::Error) {
+async fn hear(server: u32, connection: u64, registration: &Registration, node: &Shared) -> (bool, io::Error) {
     let mut is_heard = false;
     let ended: io::Result<()> = async {
-        let stream = timeout(CONNECTING, TcpStream::connect(address)).await??;
-        stream.set_nodelay(true)?;
-        let (reading, mut writing) = stream.into_split();
+        let connecting = transport::connect(node.cluster.identity.as_deref(), registration);
+        let (reading, mut writing) = timeout(CONNECTING, connecting).await??;
         let greeting = Frame::Client { about: node.about(), first: *CLIENTS.start(), last: *CLIENTS.end() };
-        timeout(CONNECTING, writing.write_all(&greeting.bytes())).await??;
+        timeout(CONNECTING, transport::write(&mut writing, &greeting.bytes())).await??;
         is_heard = true;
         let (asks, asked) = unbounded_channel();
         tell(node, server, connection, Heard::Begins(asks));
@@ -87,7 +88,7 @@ async fn read_all(from: impl AsyncRead + Unpin, server: u32, connection: u64, no
 
 async fn write_all(mut to: impl AsyncWrite + Unpin, mut asked: UnboundedReceiver<Frame>) -> io::Result<()> {
     while let Some(frame) = asked.recv().await {
-        timeout(WRITING, to.write_all(&frame.bytes())).await??;
+        timeout(WRITING, transport::write(&mut to, &frame.bytes())).await??;
     }
     Ok(())
 }

@@ -8,7 +8,6 @@ mod hearing;
 mod process;
 
 use std::collections::{BTreeMap, BTreeSet, VecDeque};
-use std::net::SocketAddr;
 use std::ops::RangeInclusive;
 use std::path::PathBuf;
 use std::sync::Arc;
@@ -19,6 +18,7 @@ use tokio::sync::mpsc::UnboundedSender;
 use tokio::sync::oneshot;
 use tokio::task::JoinHandle;
 
+use crate::addresses::Place;
 use crate::pipe::{FromGateway, FromNode};
 use crate::records::GatewayPhase;
 use crate::wire::Frame;
@@ -43,8 +43,8 @@ const MOST_UNANSWERED: u32 = 10;
 /// How a gateway is started.
 #[derive(Clone, Debug, PartialEq, Eq)]
 pub struct Settings {
-    /// Where it listens.
-    pub listen: SocketAddr,
+    /// Where it listens, and where fronts find it.
+    pub place: Place,
     /// Its file of options.
     pub config: Option<PathBuf>,
 }

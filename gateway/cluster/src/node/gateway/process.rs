@@ -1,6 +1,8 @@
 //! The processes of a gateway, one after the other.
 
-use std::os::fd::OwnedFd;
+use std::fs::File;
+use std::io::Write;
+use std::os::fd::{AsRawFd, FromRawFd, OwnedFd, RawFd};
 use std::os::unix::net::UnixStream as Socket;
 use std::os::unix::process::CommandExt;
 use std::process::{Command, Stdio};
@@ -17,8 +19,10 @@ use tokio::sync::oneshot;
 use tokio::time::sleep;
 
 use crate::child::{end_with_this_process, said};
+use crate::identity::Pems;
 use crate::parts::{Frames, FRAME_LIMIT};
 use crate::pipe::{FromGateway, FromNode};
+use crate::records::Cluster;
 use crate::wire::Frame;
 
 use super::super::connections::{next_connection, other, write_some, Outlet};
@@ -58,14 +62,15 @@ fn next_pause(pause: Duration) -> Duration {
 
 /// One process from its start to its end. Says why it ended.
 async fn live(node: &Shared, settings: &Settings) -> String {
-    let started = match command(settings) {
-        Ok((command, socket)) => spawn(command, socket).await,
+    let started = match command(&node.cluster, settings) {
+        // The files are there until the process has begun, which opens them then.
+        Ok((command, socket, _files)) => spawn(command, socket).await,
         Err(error) => Err(error),
     };
     match started {
         Ok((socket, process)) => {
             let life = next_connection();
-            tracing::info!(life, listen = %settings.listen, process = process.id, "a gateway begins");
+            tracing::info!(life, listen = %settings.place.listen, process = process.id, "a gateway begins");
             let tell = |happening| node.tell(Event::Gateway(happening));
             let why = converse(socket, life, &node.time_for_gateway(), &tell).await;
             tell(Happening::Ended { life });
@@ -95,8 +100,8 @@ impl Process {
 
 /// Tries whether a gateway would begin: it reads its options and files, and takes its address for a moment. An error says what
 /// it said.
-pub async fn test(settings: &Settings) -> anyhow::Result<()> {
-    let mut command = program(settings)?;
+pub async fn test(cluster: &Cluster, settings: &Settings) -> anyhow::Result<()> {
+    let (mut command, _files) = program(cluster, settings)?;
     command.arg("--only-prepare").stdin(Stdio::null());
     let output = tokio::task::spawn_blocking(move || command.output()).await??;
     if !output.status.success() {
@@ -106,27 +111,71 @@ pub async fn test(settings: &Settings) -> anyhow::Result<()> {
     Ok(())
 }
 
-/// The command, and this end of the socket that is its standard input.
-fn command(settings: &Settings) -> io::Result<(Command, Socket)> {
+/// The command, this end of the socket that is its standard input, and files that it is given.
+fn command(cluster: &Cluster, settings: &Settings) -> io::Result<(Command, Socket, Vec<OwnedFd>)> {
     let (own, other) = Socket::pair()?;
     own.set_nonblocking(true)?;
-    let mut command = program(settings)?;
+    let (mut command, files) = program(cluster, settings)?;
     command.stdin(Stdio::from(OwnedFd::from(other)));
-    Ok((command, own))
+    Ok((command, own, files))
 }
 
-fn program(settings: &Settings) -> io::Result<Command> {
+/// The command without its standard input, and files that it is given.
+fn program(cluster: &Cluster, settings: &Settings) -> io::Result<(Command, Vec<OwnedFd>)> {
+    let listen = settings.place.listen;
     let mut command = Command::new(std::env::current_exe()?);
-    command.args(["serve", "--beside-node", "--host", &settings.listen.ip().to_string()]);
-    command.args(["--port", &settings.listen.port().to_string()]);
+    command.args(["serve", "--beside-node", "--host", &listen.ip().to_string()]);
+    command.args(["--port", &listen.port().to_string()]);
+    let mut files = Vec::new();
+    if let Some(identity) = &cluster.identity {
+        command.args(["--cluster", &cluster.name]);
+        files = give_identity(&mut command, &identity.pems)?;
+    }
     if let Some(config) = &settings.config {
         command.arg("--config").arg(config);
     }
     // A node may be told by these where fronts find its cluster. This one is no front.
-    command.env_remove("HOBBYCHAIR_CLUSTER").env_remove("HOBBYCHAIR_ETCD");
+    command.env_remove("HOBBYCHAIR_CLUSTER").env_remove("HOBBYCHAIR_ETCD").env_remove("HOBBYCHAIR_AUTHORITY");
     command.process_group(0);
     end_with_this_process(&mut command);
-    Ok(command)
+    Ok((command, files))
+}
+
+/// The gateway shows the certificate that was registered, whatever stands in the files by now: it is given what was read, in
+/// memory that this process and that one alone can open.
+fn give_identity(command: &mut Command, pems: &Pems) -> io::Result<Vec<OwnedFd>> {
+    let given = [("--certificate", &pems.certificate), ("--key", &pems.key), ("--authority", &pems.authority)];
+    let mut files = Vec::new();
+    for (option, pem) in given {
+        let mut file = file_in_memory()?;
+        file.write_all(pem.text())?;
+        command.arg(option).arg(format!("/proc/self/fd/{}", file.as_raw_fd()));
+        files.push(OwnedFd::from(file));
+    }
+    let numbers: Vec<RawFd> = files.iter().map(AsRawFd::as_raw_fd).collect();
+    // SAFETY: what runs between fork and exec takes no locks and no memory. Each number is that of a file which is kept open
+    // until then.
+    unsafe { command.pre_exec(move || numbers.iter().try_for_each(|number| keep_open(*number))) };
+    Ok(files)
+}
+
+fn file_in_memory() -> io::Result<File> {
+    // SAFETY: the name ends with a zero byte, and the number is a file's that nobody else has.
+    unsafe {
+        match libc::memfd_create(b"pem\0".as_ptr().cast(), libc::MFD_CLOEXEC) {
+            -1 => Err(io::Error::last_os_error()),
+            number => Ok(File::from_raw_fd(number)),
+        }
+    }
+}
+
+/// The file stays open in what is executed.
+fn keep_open(number: RawFd) -> io::Result<()> {
+    // SAFETY: the call touches no memory of this process.
+    match unsafe { libc::fcntl(number, libc::F_SETFD, 0) } {
+        0 => Ok(()),
+        _ => Err(io::Error::last_os_error()),
+    }
 }
 
 async fn spawn(command: Command, socket: Socket) -> io::Result<(UnixStream, Process)> {

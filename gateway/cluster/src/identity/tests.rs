@@ -1,0 +1,178 @@
+use std::path::Path;
+
+use tokio::io::{AsyncReadExt, AsyncWriteExt};
+use tokio::net::TcpListener;
+
+use super::*;
+use crate::certificates::{make, Wanted};
+use crate::records::random_name;
+
+/// A folder of this test alone, with an authority.
+struct Folder(PathBuf);
+
+impl Drop for Folder {
+    fn drop(&mut self) {
+        let _ = std::fs::remove_dir_all(&self.0);
+    }
+}
+
+fn wanted(folder: &Path, cluster: &str, roles: &[Role], name: Option<&str>) -> Wanted {
+    let name = name.map(String::from);
+    Wanted { cluster: cluster.into(), folder: folder.into(), role: roles.to_vec(), name, address: vec![], days: None }
+}
+
+impl Folder {
+    fn new() -> Folder {
+        let folder = Folder(std::env::temp_dir().join(format!("hobbychair-{}", random_name())));
+        make(&wanted(&folder.0, "one", &[], None)).unwrap();
+        folder
+    }
+
+    fn files(&self, name: &str) -> IdentityFiles {
+        let file = |name: &str| Some(self.0.join(name));
+        IdentityFiles {
+            certificate: file(&format!("{name}.pem")),
+            key: file(&format!("{name}.key")),
+            authority: file("authority.pem"),
+        }
+    }
+
+    /// A certificate of that name, and what it makes.
+    fn make(&self, cluster: &str, roles: &[Role], name: &str) -> Arc<Identity> {
+        make(&wanted(&self.0, cluster, roles, Some(name))).unwrap();
+        self.files(name).identity(cluster, roles).unwrap().unwrap()
+    }
+}
+
+/// What the client and the server say of a connection from the one to the other, each of which sends the other a byte.
+async fn meet(
+    client: &Identity,
+    server: &Identity,
+    role: Role,
+    wanted: Option<Fingerprint>,
+) -> (Result<(), String>, Result<Peer, String>) {
+    let listener = TcpListener::bind("127.0.0.1:0").await.unwrap();
+    let address = listener.local_addr().unwrap();
+    let connects = async {
+        let stream = TcpStream::connect(address).await?;
+        let mut stream = client.connect(stream, role, wanted).await?;
+        stream.write_all(&[7]).await?;
+        stream.flush().await?;
+        stream.read_u8().await.map(|_| ())
+    };
+    let accepts = async {
+        let (mut stream, peer) = server.accept(listener.accept().await?.0).await?;
+        stream.read_u8().await?;
+        stream.write_all(&[7]).await?;
+        stream.flush().await?;
+        Ok::<_, io::Error>(peer)
+    };
+    let (connected, accepted) = tokio::join!(connects, accepts);
+    (connected.map_err(|error| error.to_string()), accepted.map_err(|error| error.to_string()))
+}
+
+#[tokio::test]
+async fn both_ends_know_who_the_other_one_is() {
+    let folder = Folder::new();
+    let node = folder.make("one", &[Role::Node], "node");
+    let front = folder.make("one", &[Role::Front, Role::Master], "front");
+    for wanted in [None, Some(node.fingerprint())] {
+        let (connected, accepted) = meet(&front, &node, Role::Node, wanted).await;
+        connected.unwrap();
+        let peer = accepted.unwrap();
+        assert_eq!(peer.fingerprint(), front.fingerprint());
+        assert_eq!(
+            [Role::Node, Role::Master, Role::Front, Role::Etcd].map(|role| peer.is(role)),
+            [false, true, true, false]
+        );
+        assert!(peer.test(&[Role::Node]).unwrap_err().contains("none of a node of cluster one"));
+        assert!(peer.test(&[Role::Front, Role::Node]).is_ok());
+    }
+    let (connected, accepted) = meet(&front, &node, Role::Node, Some(front.fingerprint())).await;
+    assert!(connected.unwrap_err().contains("another certificate than was registered"));
+    assert!(accepted.is_err(), "nothing is said to it");
+}
+
+#[tokio::test]
+async fn whoever_is_of_another_role_cluster_or_authority_is_not_believed() {
+    let (folder, strange) = (Folder::new(), Folder::new());
+    let node = folder.make("one", &[Role::Node], "node");
+    let etcd = folder.make("one", &[Role::Etcd], "etcd");
+    let other = folder.make("two", &[Role::Node], "other");
+    let stranger = strange.make("one", &[Role::Node], "node");
+    for server in [&etcd, &other] {
+        let (connected, _) = meet(&node, server, Role::Node, None).await;
+        assert_eq!(connected.unwrap_err(), "its certificate is of another role or of another cluster");
+    }
+    let (connected, accepted) = meet(&node, &stranger, Role::Node, None).await;
+    assert_eq!(connected.unwrap_err(), "its certificate is of another authority");
+    assert!(accepted.unwrap_err().starts_with("the other end ends TLS"));
+    // One of another cluster, who asks for a node of this one.
+    let other = Identity::new("one", other.pems.clone()).unwrap();
+    let (connected, accepted) = meet(&other, &node, Role::Node, None).await;
+    assert!(connected.is_ok() && !accepted.unwrap().is(Role::Node));
+    let stranger = Identity::new("one", strange_client(&folder, &strange)).unwrap();
+    let (connected, accepted) = meet(&stranger, &node, Role::Node, None).await;
+    assert_eq!(accepted.unwrap_err(), "its certificate is of another authority");
+    assert!(connected.is_err());
+}
+
+/// One who believes the authority, and has a certificate of another one.
+fn strange_client(folder: &Folder, strange: &Folder) -> Pems {
+    let read = |folder: &Folder, name: &str| Pem::read(&folder.0.join(name)).unwrap();
+    Pems {
+        certificate: read(strange, "node.pem"),
+        key: read(strange, "node.key"),
+        authority: read(folder, "authority.pem"),
+    }
+}
+
+#[tokio::test]
+async fn who_speaks_no_tls_is_told_from_who_goes() {
+    let folder = Folder::new();
+    let node = folder.make("one", &[Role::Node], "node");
+    for (sent, said) in [(&b"GET / HTTP/1.1\r\n\r\n"[..], Some("it doesn't speak TLS")), (b"", None)] {
+        let listener = TcpListener::bind("127.0.0.1:0").await.unwrap();
+        let mut stream = TcpStream::connect(listener.local_addr().unwrap()).await.unwrap();
+        stream.write_all(sent).await.unwrap();
+        drop(stream);
+        let Err(error) = node.accept(listener.accept().await.unwrap().0).await else { panic!("it is taken in") };
+        match said {
+            Some(said) => assert_eq!(error.to_string(), said),
+            None => assert_eq!(error.kind(), io::ErrorKind::UnexpectedEof),
+        }
+    }
+}
+
+#[test]
+fn an_own_certificate_that_others_would_refuse_is_told_at_the_start() {
+    let (folder, strange) = (Folder::new(), Folder::new());
+    folder.make("one", &[Role::Front], "front");
+    strange.make("one", &[Role::Front], "front");
+    let said = |files: &IdentityFiles, cluster: &str, roles: &[Role]| {
+        files.identity(cluster, roles).map(|_| ()).unwrap_err().to_string()
+    };
+    let files = folder.files("front");
+    assert!(files.identity("one", &[]).unwrap().is_some() && files.identity("one", &[Role::Node, Role::Front]).is_ok());
+    let lacks = said(&files, "one", &[Role::Node]);
+    assert!(lacks.ends_with("front.pem: it isn't for this: it lacks the name node.one.hobbychair.internal"), "{lacks}");
+    assert!(said(&files, "two", &[Role::Front]).contains("lacks the name front.two."));
+    let other = IdentityFiles { authority: strange.files("front").authority, ..files.clone() };
+    assert!(said(&other, "one", &[]).contains("front.pem: the authority hasn't signed it"));
+    let mixed = IdentityFiles { key: strange.files("front").key, ..files.clone() };
+    assert!(said(&mixed, "one", &[]).contains("is not the key of"));
+    let half = IdentityFiles { key: None, ..files.clone() };
+    assert!(said(&half, "one", &[]).contains("are given together"));
+    assert!(said(&files, "A_b", &[]).contains("no name of a cluster with certificates"));
+    assert!(IdentityFiles::default().identity("A_b", &[Role::Node]).unwrap().is_none());
+}
+
+#[test]
+fn a_fingerprint_is_a_text_of_64_digits() {
+    let empty = Fingerprint::of(&Certificate(Vec::new()));
+    assert_eq!(empty.to_string(), "e3b0c44298fc1c149afbf4c8996fb92427ae41e4649b934ca495991b7852b855");
+    assert_eq!(Fingerprint::try_from(empty.to_string()), Ok(empty));
+    for bad in ["", "e3", &"g".repeat(64), &"é".repeat(32), &"0".repeat(65)] {
+        assert!(Fingerprint::try_from(bad.to_string()).is_err(), "{bad}");
+    }
+}
