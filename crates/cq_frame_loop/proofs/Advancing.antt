@@ -59,7 +59,7 @@ module _ {S : Type 0} (answers : Relation S) where
   cut_now s t count later bytes told rest before =
       ap (frames_behind count) (sym (append-nil bytes)) ∙ before.cut [] ∙ ap (λ (xs : List ℕ). frames_in before.steps ++ frames_behind later xs) (append-nil rest)
 
-  begins_now : (rest : List ℕ) (frame : Option (List ℕ)) (size : ℕ) → BeginsWith rest frame size → frames_behind 0 rest ≡ frame ∷ frames_behind size rest
+  pub begins_now : (rest : List ℕ) (frame : Option (List ℕ)) (size : ℕ) → BeginsWith rest frame size → frames_behind 0 rest ≡ frame ∷ frames_behind size rest
   begins_now rest frame size begins =
       ap (frames_behind 0) (sym (append-nil rest)) ∙ begins [] ∙ ap (λ (xs : List ℕ). frame ∷ frames_behind size xs) (append-nil rest)
 

@@ -5,3 +5,4 @@ pub mod Chaining
 pub mod Advancing
 pub mod Endings
 pub mod Examples
+pub mod Settled

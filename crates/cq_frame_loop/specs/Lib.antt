@@ -4,4 +4,5 @@ pub mod Laws
 -- what is told of them
 pub mod Chains
 pub mod Loops
+pub mod Settling
 pub mod within

@@ -1,3 +1,4 @@
 -- What only the private functions cite.
 pub mod Writes
 pub mod Advances
+pub mod Settled

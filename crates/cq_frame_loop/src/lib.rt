@@ -8,8 +8,13 @@ mod frame_loop;
 mod front;
 mod handler;
 pub mod laws;
+mod settled_loop;
+mod settled_writing;
+mod settling;
 mod writing;
 
 pub use fault::LoopFault;
 pub use frame_loop::{BUFFER_SIZE, answer_frames};
 pub use handler::{ANSWER_ROOM, FrameHandler, Unanswered};
+pub use settled_loop::answer_settled_frames;
+pub use settling::{SettledFault, SettlingHandler, Unsettled};

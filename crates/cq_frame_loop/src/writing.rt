@@ -7,7 +7,7 @@ use crate::fault::LoopFault;
 use cq_lines::Sink;
 
 /// How many bytes of answers are written at once, though more frames are there.
-const OUT_LIMIT: usize = 4_194_304;
+pub(crate) const OUT_LIMIT: usize = 4_194_304;
 
 /// What to answer after a write gave an error or took nothing.
 fn write_fault<W: Sink>(writer: &W) -> LoopFault

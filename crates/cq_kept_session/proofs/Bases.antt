@@ -9,7 +9,7 @@ use Rattle.cq_store_wire.specs.declared.build.State.{State}
 use Rattle.cq_store_wire.specs.Building.{fed, or_truncated, store_of, whole_of}
 use Rattle.cq_lines.specs.Lines.{has_line_feed}
 use Rattle.cq_kept_session.specs.Bases.{Stage, based, ended, header_of, lined, or_bad, read, whole, with_payload, with_store}
-use Rattle.cq_kept_session.specs.Stuffed.{unstuffed}
+use Rattle.cq_kept_base.specs.Stuffed.{unstuffed}
 use Rattle.cq_kept_session.specs.declared.base.Header.{Header}
 use Rattle.cq_kept_session.proofs.Chunks.{neither}
 use Rattle.cq_kept_session.proofs.Stages.{choice, read_both}

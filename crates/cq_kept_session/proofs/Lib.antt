@@ -1,6 +1,5 @@
 mod Bases
 mod Chunks
-mod Escapes
 mod Gathered
 mod Histories
 mod Mending

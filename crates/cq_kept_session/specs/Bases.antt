@@ -11,7 +11,7 @@ use Rattle.cq_store_wire.specs.declared.build.State.{State}
 use Rattle.cq_store_wire.specs.declared.build.State.TheVariants as states
 use Rattle.cq_store_wire.specs.Building.{fed, whole_of}
 use Rattle.cq_script.specs.Resumed.{IsBaseOf}
-use Rattle.cq_kept_session.specs.Stuffed.{unstuffed}
+use Rattle.cq_kept_base.specs.Stuffed.{unstuffed}
 use Rattle.cq_kept_session.specs.declared.base.Header.{Header}
 
 -- ---- headers

@@ -5,7 +5,6 @@ pub mod Examples
 pub mod Kept
 pub mod Outcomes
 pub mod Served
-pub mod Stuffed
 pub mod Takes
 pub mod Texts
 pub mod within

@@ -3,4 +3,3 @@ pub mod Settled
 pub mod Room
 pub mod Contents
 pub mod Readers
-pub mod Stuffing

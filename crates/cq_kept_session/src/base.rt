@@ -7,7 +7,7 @@ ghost use Rattle.cq_kept_session.specs.Bases.{based, ended, header_of, lined, re
 ghost use Rattle.cq_kept_session.specs.within.Readers.{is_base, reader_stage};
 
 use crate::Highest;
-use crate::stuffing::unstuffed;
+use cq_kept_base::unstuffed;
 use cq_lines::cut_line;
 use cq_store::Store;
 use cq_store_wire::StoreReader;

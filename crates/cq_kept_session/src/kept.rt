@@ -15,12 +15,12 @@ ghost use Rattle.cq_kept_session.specs.Outcomes.{OnKept, OnNotKept};
 ghost use Rattle.cq_kept_session.specs.Texts.{as_kept, has_mark, is_ended, mended};
 ghost use Rattle.cq_kept_session.specs.declared.fault.TakeFault.TheVariants.{NotKept, NotTold};
 
-use crate::schedule::Schedule;
 use crate::text::{as_kept, has_ended, is_unmarked};
 use crate::{Highest, TakeFault};
 use cq_base::ChainSize;
 use cq_disk::Device;
 use cq_journal::Journal;
+use cq_kept_base::Schedule;
 use cq_records::{Batch, LogFault, TEXT_LIMIT, is_text};
 use cq_script::{ResumedSession, ScriptFault, Sink};
 use cq_store::Store;

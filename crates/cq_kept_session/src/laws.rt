@@ -1,6 +1,6 @@
 //! What follows of kept sessions from the contracts of their calls.
 ghost use Rattle.std.specs.Prelude.{ℕ, List};
-ghost use Rattle.cq_kept_session.specs.Examples.{BaseExamples, StuffedExamples};
+ghost use Rattle.cq_kept_session.specs.Examples.{BaseExamples};
 ghost use Rattle.cq_kept_session.specs.Kept.{StandsFor};
 ghost use Rattle.cq_kept_session.specs.Takes.{Continues, Taken, TakesAll};
 
@@ -13,8 +13,7 @@ pub fn what_is_told_is_of_what_is_kept<D: Device>(_old: &KeptSession<D>, _new: &
     ensures { (bytes : List ℕ) (takes : List Taken) → StandsFor _old.now bytes → TakesAll bytes takes _old.now _new.now → Continues bytes takes _old.now _new.now }
 {}
 
-/// Rows of stuffed texts and of bases.
+/// Rows of bases.
 pub fn bases_are_read_so()
-    ensures stuffed { StuffedExamples }
-    ensures bases { BaseExamples }
+    ensures { BaseExamples }
 {}

@@ -12,11 +12,9 @@ mod kept;
 mod laws;
 mod rewriting;
 mod room;
-mod schedule;
 mod serve;
 mod serving;
 mod starting;
-mod stuffing;
 mod text;
 
 pub use base::Header;

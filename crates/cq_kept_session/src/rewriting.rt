@@ -17,124 +17,19 @@ ghost use Rattle.cq_kept_session.specs.Bases.{AreOf, Stage, based, fresh, header
 ghost use Rattle.cq_kept_session.specs.Served.{Serves};
 ghost use Rattle.cq_kept_session.specs.Texts.{is_ended};
 ghost use Rattle.cq_kept_session.specs.declared.base.Header.{Header};
-ghost use Rattle.cq_kept_session.specs.within.Stuffing.{Stuffs};
 
 use crate::base::Header;
-use crate::stuffing::stuff;
 use crate::text::MARK;
 use crate::{Highest, KeptSession};
 use cq_base::NoMemory;
 use cq_disk::Device;
 use cq_journal::{Base, Journal};
-use cq_records::{Batch, LogFault, is_text};
+use cq_kept_base::{add_record, begin_base, message_count, next_chunk, piece_size, piece_text};
+use cq_records::LogFault;
 use cq_store::Store;
 use cq_store_wire::{StoreWriter, store_fits};
 use cq_wire::Writer;
 use std::alloc::Global;
-
-/// How many bytes of a store a piece of a base has at least, if there are so many.
-const PIECE: usize = 1_048_576;
-
-/// A piece is at least so many times shorter than a region, but for a single part of a store.
-const PIECES: usize = 8;
-
-/// A batch with just this record. `Full`: no record can be so long.
-fn batch_of(alloc: Global, text: &[u8]) -> Result<Batch, LogFault>
-    ensures { IfOk result (λ batch. records (batch_bytes batch) ≡ text.now ∷ []) }
-{
-    if !is_text(text) {
-        return Err(LogFault::Full);
-    }
-    let mut batch = Batch::new(alloc);
-    batch.add(text)?;
-    Ok(batch)
-}
-
-/// Begins a base in a free region. `Full`: there is none, and the journal goes on.
-fn begin_base<D: Device>(journal: &mut Journal<D>, alloc: Global) -> Result<Base, LogFault>
-    requires { IsJournal journal.old }
-
-    ensures journal { OnOk result (IsJournal journal.new) }
-    ensures rests { Rests journal.old journal.new }
-    ensures base { IfOk result (λ base. IsBase journal.new base) }
-    ensures empty { IfOk result (λ base. base_records journal.new base ≡ []) }
-    ensures full { IsErrOf result Full → IsJournal journal.new }
-{
-    journal.begin_base(alloc)
-}
-
-/// Adds a batch to a base. `Full`: the region that grows has no room for it, and the base is the same.
-fn add_batch<D: Device>(
-    journal: &mut Journal<D>,
-    base: &mut Base,
-    batch: &Batch,
-) -> Result<(), LogFault>
-    requires journal { IsJournal journal.old }
-    requires base { IsBase journal.old base.old }
-
-    ensures journal { OnOk result (IsJournal journal.new) }
-    ensures rests { Rests journal.old journal.new }
-    ensures base { OnOk result (IsBase journal.new base.new) }
-    ensures added { OnOk result (base_records journal.new base.new ≡ base_records journal.old base.old ++ records (batch_bytes batch.now)) }
-    ensures full { IsErrOf result Full → IsJournal journal.new × IsBase journal.new base.new × (base_records journal.new base.new ≡ base_records journal.old base.old) }
-{
-    journal.add_to_base(base, batch)
-}
-
-/// Has a base go on in one more region. `Full`: none is free, and the journal goes on.
-fn widen_base<D: Device>(
-    journal: &mut Journal<D>,
-    alloc: Global,
-    base: &mut Base,
-) -> Result<(), LogFault>
-    requires journal { IsJournal journal.old }
-    requires base { IsBase journal.old base.old }
-
-    ensures journal { OnOk result (IsJournal journal.new) }
-    ensures rests { Rests journal.old journal.new }
-    ensures base { OnOk result (IsBase journal.new base.new) }
-    ensures same { OnOk result (base_records journal.new base.new ≡ base_records journal.old base.old) }
-    ensures full { IsErrOf result Full → IsJournal journal.new }
-{
-    journal.widen_base(alloc, base)
-}
-
-/// Adds a record to a base, in one more region where it has to. `Full`: there is no space for it, and the journal goes on.
-fn add_record<D: Device>(
-    journal: &mut Journal<D>,
-    alloc: Global,
-    base: &mut Base,
-    text: &[u8],
-) -> Result<(), LogFault>
-    requires journal { IsJournal journal.old }
-    requires base { IsBase journal.old base.old }
-
-    ensures journal { OnOk result (IsJournal journal.new) }
-    ensures rests { Rests journal.old journal.new }
-    ensures base { OnOk result (IsBase journal.new base.new) }
-    ensures added { OnOk result (base_records journal.new base.new ≡ base_records journal.old base.old ++ text.now ∷ []) }
-    ensures full { IsErrOf result Full → IsJournal journal.new }
-{
-    let batch = batch_of(alloc, text)?;
-    match add_batch(journal, base, &batch) {
-        Ok(()) => return Ok(()),
-        Err(LogFault::Full) => (),
-        Err(fault) => return Err(fault),
-    }
-    widen_base(journal, alloc, base)?;
-    add_batch(journal, base, &batch)
-}
-
-/// The text of a piece that stands for these bytes, behind what its record begins with.
-fn piece_text(alloc: Global, front: &[u8], payload: &[u8]) -> Result<Vec<u8>, LogFault>
-    ensures { IfOk result (λ text. (stuffed : List ℕ) × Stuffs front.now stuffed payload.now × (text.items ≡ stuffed ++ 10 ∷ [])) }
-{
-    let mut text = Vec::new(alloc);
-    text.extend_from_slice(front)?;
-    stuff(&mut text, payload)?;
-    text.push(b'\n')?;
-    Ok(text)
-}
 
 /// Adds a piece to a base, behind what its record begins with.
 fn add_piece<D: Device>(
@@ -171,24 +66,6 @@ fn header_bytes(alloc: Global, lines: u64, clients: u32, queriers: u32) -> Resul
     Ok(out.whole())
 }
 
-/// The next chunk of a store.
-fn next_chunk(
-    alloc: Global,
-    writer: &mut StoreWriter,
-    store: &Store,
-    enough: usize,
-) -> Result<Vec<u8>, LogFault>
-    ensures chunk { IfOk result (λ chunk. IsChunk (parts_from store.now writer.old.bodies writer.old.place) (parts_from store.now writer.new.bodies writer.new.place) chunk.items) }
-    ensures moves { OnOk result ((writer.old.place ≡ places.End → ⊥)
-        → length (parts_from store.now writer.new.bodies writer.new.place) < length (parts_from store.now writer.old.bodies writer.old.place)) }
-{
-    let mut chunk = Vec::new(alloc);
-    match writer.next(store, &mut chunk, enough) {
-        Ok(()) => Ok(chunk),
-        Err(NoMemory) => Err(LogFault::NoMemory),
-    }
-}
-
 /// Adds the chunks of a store to a base that has its header.
 fn add_store<D: Device>(
     journal: &mut Journal<D>,
@@ -207,7 +84,7 @@ fn add_store<D: Device>(
     ensures full { IsErrOf result Full → IsJournal journal.new }
 {
     store_fits(store);
-    let enough = (journal.region_size() / PIECES).min(PIECE);
+    let enough = piece_size(journal.region_size());
     let mut writer = StoreWriter::new(alloc);
     while !writer.is_done() {
         let chunk = next_chunk(alloc, &mut writer, store, enough)?;
@@ -296,26 +173,6 @@ fn highest_client(store: &Store) -> u32 {
         }
     }
     highest
-}
-
-/// How many messages the queue of the name at that place has.
-fn messages_at(store: &Store, index: usize) -> u64 {
-    match store.name(index) {
-        Some((_, kept)) => match kept.living() {
-            Some(queue) => queue.messages().len(),
-            None => 0,
-        },
-        None => 0,
-    }
-}
-
-/// How many messages a store has: O(names).
-fn message_count(store: &Store) -> u64 {
-    let mut count: u64 = 0;
-    for index in 0..store.name_count() {
-        count = count.saturating_add(messages_at(store, index));
-    }
-    count
 }
 
 impl<D: Device> KeptSession<D> {

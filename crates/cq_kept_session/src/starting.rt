@@ -15,12 +15,12 @@ ghost use Rattle.cq_kept_session.specs.declared.base.Header.{Header};
 ghost use Rattle.cq_kept_session.specs.within.Readers.{IsRead, IsRun, reader_stage};
 
 use crate::base::{BaseReader, Reading};
-use crate::schedule::Schedule;
 use crate::text::{MARK, has_ended};
 use crate::{Highest, KeptSession, StartFault};
 use cq_base::{ChainSize, NoMemory};
 use cq_disk::Device;
 use cq_journal::{Journal, NUMBER_LIMIT, OpenFault};
+use cq_kept_base::Schedule;
 use cq_lines::BYTES_LIMIT;
 use cq_script::ResumedSession;
 use std::alloc::Global;

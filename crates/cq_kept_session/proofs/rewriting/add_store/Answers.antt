@@ -10,7 +10,7 @@ use Rattle.cq_store_wire.specs.Building.{fed}
 use Rattle.cq_store_wire.proofs.Passing.{all-passed, begun}
 use Rattle.cq_kept_session.specs.Bases.{based, fresh, read}
 use Rattle.cq_kept_session.proofs.Bases.{with_chunk}
-use Rattle.cq_kept_session.proofs.Written.{chunk_is_fed, some_chunk}
+use Rattle.cq_kept_base.proofs.Written.{chunk_is_fed, some_chunk}
 use Rattle.cq_kept_session.proofs.rewriting.add_store.Goals as goal
 
 pub loop-alloc-init : goal.loop-alloc-init

@@ -6,7 +6,7 @@ use Rattle.cq_records.specs.Frames.{joined}
 use Rattle.cq_kept_session.specs.Bases.{fresh, read}
 use Rattle.cq_kept_session.specs.Texts.{is_ended}
 use Rattle.cq_kept_session.proofs.Pieces.{if_ok}
-use Rattle.cq_kept_session.proofs.Rewritten.{rests_tries, rewrite_tries}
+use Rattle.cq_kept_base.proofs.Rewriting.{rests_tries, rewrite_tries}
 use Rattle.cq_kept_session.proofs.rewriting.replace_records.Goals as goal
 
 pub returns-in_err-base-clause-tries : goal.returns-in_err-base-clause-tries

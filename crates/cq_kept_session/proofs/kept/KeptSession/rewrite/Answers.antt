@@ -8,7 +8,8 @@ use Rattle.cq_records.specs.Frames.{joined}
 use Rattle.cq_records.specs.declared.fault.LogFault.TheVariants.{Full}
 use Rattle.cq_script.specs.Resumed.{IsBaseOf}
 use Rattle.cq_kept_session.specs.Bases.{AreOf}
-use Rattle.cq_kept_session.proofs.Rewritten.{kept_beside, kept_rewritten, means_base, rests_tries}
+use Rattle.cq_kept_base.proofs.Rewriting.{rests_tries}
+use Rattle.cq_kept_session.proofs.Rewritten.{kept_beside, kept_rewritten, means_base}
 use Rattle.cq_kept_session.proofs.kept.KeptSession.rewrite.Goals as goal
 
 pub returns-then-not-self-clause-tries : goal.returns-then-not-self-clause-tries

@@ -1,0 +1,9 @@
+use Rattle.std.proofs.Common.{◌≡◌, ◌++◌}
+use Rattle.std.specs.Prelude.{replicate}
+use Rattle.cq_kept_base.proofs.stuffing.push_zeros.Given as goal
+
+abbrev pub invariant-loop-left : goal.invariant-loop-left
+invariant-loop-left l = l.bytes.items ++ replicate l.left 0 ≡ l.initial.bytes.items ++ replicate l.initial.left 0
+
+abbrev pub decreases-loop-left : goal.decreases-loop-left
+decreases-loop-left l = l.left

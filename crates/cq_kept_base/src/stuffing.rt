@@ -1,0 +1,128 @@
+//! Bytes as texts that have no 0 and no line feed.
+ghost use Rattle.std.specs.Prelude.{◌≡◌, ◌≤◌, ◌++◌, ◌∷◌, ℕ, List, false, length, take, replicate, OnOk, IfOk};
+ghost use Rattle.cq_wire.specs.Reading.{Gives};
+ghost use Rattle.cq_kept_base.specs.Stuffed.{escaped, put_before, unstuffed};
+ghost use Rattle.cq_kept_base.specs.Stuffing.{Stuffs};
+
+use cq_wire::{ReadFault, WireFault};
+use std::alloc::{AllocError, Global};
+
+/// What says that the byte behind it is escaped.
+const ESCAPE: u8 = 1;
+
+/// What stands for a line feed behind an escape.
+const LINE_FEED: u8 = 2;
+
+/// By how much the byte that stands for zeros is above their number.
+const ZEROS_ABOVE: u8 = 10;
+
+/// The most zeros that follow the first one where one byte stands for all.
+const ZEROS_LIMIT: usize = 244;
+
+/// How many zeros these bytes begin with, as far as one byte can stand for them.
+fn zeros_in_front(bytes: &[u8]) -> usize
+    ensures zeros { take result bytes.now ≡ replicate result 0 }
+    ensures within { result ≤ length bytes.now }
+    ensures few { result ≤ ZEROS_LIMIT }
+{
+    let mut count = 0;
+    while count < bytes.len() && count < ZEROS_LIMIT && bytes[count] == 0 {
+        count += 1;
+    }
+    count
+}
+
+/// Adds what stands for the first of these bytes, and for the zeros behind it if it is one. It answers the bytes behind them.
+fn push_first<'a>(text: &mut Vec<u8>, byte: u8, behind: &'a [u8]) -> Result<&'a [u8], AllocError>
+    ensures stuffs { IfOk result (λ rest. (value : List ℕ) × (value ++ rest.now ≡ byte ∷ behind.now) × Stuffs text.old.items text.new.items value) }
+    ensures fewer { IfOk result (λ rest. length rest.now ≤ length behind.now) }
+{
+    match byte {
+        0 => {
+            let more = zeros_in_front(behind);
+            text.extend_from_slice(&[ESCAPE, ZEROS_ABOVE + 1 + more as u8])?;
+            let (_, rest) = behind.split_at(more);
+            Ok(rest)
+        }
+        1 => {
+            text.extend_from_slice(&[ESCAPE, ESCAPE])?;
+            Ok(behind)
+        }
+        10 => {
+            text.extend_from_slice(&[ESCAPE, LINE_FEED])?;
+            Ok(behind)
+        }
+        _ => {
+            text.extend_from_slice(&[byte])?;
+            Ok(behind)
+        }
+    }
+}
+
+/// Adds a text that stands for these bytes. It is at most twice as long.
+pub fn stuff(text: &mut Vec<u8>, bytes: &[u8]) -> Result<(), AllocError>
+    ensures { OnOk result (Stuffs text.old.items text.new.items bytes.now) }
+{
+    let mut rest = bytes;
+    while let Some((byte, behind)) = rest.split_first() {
+        rest = push_first(text, *byte, behind)?;
+    }
+    Ok(())
+}
+
+fn push_zeros(bytes: &mut Vec<u8>, count: usize) -> Result<(), AllocError>
+    ensures { OnOk result (bytes.new.items ≡ bytes.old.items ++ replicate count 0) }
+{
+    let mut left = count;
+    while left > 0 {
+        bytes.push(0)?;
+        left -= 1;
+    }
+    Ok(())
+}
+
+/// Adds the bytes for which a byte behind an escape stands.
+fn push_escaped(bytes: &mut Vec<u8>, byte: u8) -> Result<(), AllocError>
+    ensures { OnOk result (bytes.new.items ≡ bytes.old.items ++ escaped byte) }
+{
+    if byte == ESCAPE {
+        bytes.push(ESCAPE)?;
+        return Ok(());
+    }
+    if byte == LINE_FEED {
+        bytes.push(10)?;
+        return Ok(());
+    }
+    push_zeros(bytes, byte.saturating_sub(ZEROS_ABOVE) as usize)
+}
+
+/// Adds the bytes for which the next byte of a text stands. It answers whether the byte behind that is escaped.
+fn push_next(bytes: &mut Vec<u8>, is_escaped: bool, byte: u8) -> Result<bool, AllocError>
+    ensures { IfOk result (λ next. (value : List ℕ) × (bytes.new.items ≡ bytes.old.items ++ value)
+        × ((rest : List ℕ) → unstuffed is_escaped (byte ∷ rest) ≡ put_before value (unstuffed next rest))) }
+{
+    if is_escaped {
+        push_escaped(bytes, byte)?;
+        return Ok(false);
+    }
+    if byte == ESCAPE {
+        return Ok(true);
+    }
+    bytes.push(byte)?;
+    Ok(false)
+}
+
+/// The bytes for which a text stands.
+pub fn unstuffed(alloc: Global, text: &[u8]) -> Result<Vec<u8>, ReadFault>
+    ensures { Gives (λ bytes. bytes.items) result (unstuffed false text.now) }
+{
+    let mut bytes = Vec::new(alloc);
+    let mut is_escaped = false;
+    for byte in text {
+        is_escaped = push_next(&mut bytes, is_escaped, *byte)?;
+    }
+    if is_escaped {
+        return Err(ReadFault::Bad(WireFault::Truncated));
+    }
+    Ok(bytes)
+}

@@ -1,0 +1,5 @@
+mod Added
+mod Listed
+pub mod Readings
+mod Restored
+mod Rewritten

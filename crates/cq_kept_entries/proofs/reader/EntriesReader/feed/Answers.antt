@@ -1,0 +1,30 @@
+-- One piece more, or the begin of one.
+use Rattle.std.proofs.Common.{List, ℕ, [], ◌++◌, refl, sym, ◌∙◌, ap, subst}
+use Rattle.cq_kept_entries.specs.Pieces.{at, ended, read}
+use Rattle.cq_kept_entries.specs.within.Readers.{IsReader}
+use Rattle.cq_kept_entries.proofs.Listed.{grown}
+use Rattle.cq_kept_entries.proofs.Readings.{if_ok, piece_ended, piece_on}
+use Rattle.cq_kept_entries.proofs.reader.EntriesReader.feed.Goals as goal
+
+pub loop-front-init : goal.loop-front-init
+loop-front-init c = λ a is. (a, is, refl)
+
+pub loop-front-preserved : goal.loop-front-preserved
+loop-front-preserved c = λ a is.
+    let so_far = c.loop-front.invariant a is in
+    let b = so_far.0 in
+    let front = c.in-Some.front.now in
+    let cut = c.in-Some.ensures in
+    let w = c.in_ok-with_front.ensures in (
+      at [] (ended (b.piece ++ front) b.stage),
+      c.in_ok-reader.ensures (at (b.piece ++ front) b.stage) (grown b c.loop-front.reader c.in_ok-with_front.field-0 front w.0 w.1 so_far.1),
+      so_far.2 ∙ ap (λ (l : List ℕ). read b l) cut.1 ∙ piece_ended b.piece front c.in-Some.behind.now b.stage cut.0,
+    )
+
+pub returns : goal.returns
+returns c = λ a is.
+    let so_far = c.loop-front.invariant a is in
+    let b = so_far.0 in
+    let rest = c.loop-front.rest.now in
+    if_ok c.with_front-2.result c.with_front-2.ensures (λ reader w.
+    subst (λ x. IsReader x reader) (sym (so_far.2 ∙ piece_on b.piece rest b.stage c.in_default.ensures)) (grown b c.loop-front.reader reader rest w.0 w.1 so_far.1))

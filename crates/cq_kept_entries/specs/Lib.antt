@@ -1,0 +1,5 @@
+pub mod Classes
+pub mod Examples
+pub mod Kept
+pub mod Pieces
+pub mod within

@@ -1,0 +1,3 @@
+-- What only the private functions cite.
+pub mod Readers
+pub mod Room

@@ -1,0 +1,25 @@
+-- What has been read of what is kept.
+use Rattle.std.specs.Prelude.{◌≡◌, List, Option}
+use Rattle.cq_base.specs.declared.ask.Entry.{Entry}
+use Rattle.cq_store.specs.Stands as stores
+use Rattle.cq_kept_entries.specs.Pieces.{AreEntries, At, Stage, fresh, listing, storing}
+use Rattle.cq_kept_entries.specs.declared.reader.EntriesReader.{EntriesReader}
+use Rattle.cq_kept_entries.specs.declared.reader.Progress.{Progress}
+use Rattle.cq_kept_entries.specs.declared.reader.Progress.TheVariants as progress
+
+-- the store stands for the entries that were read, whatever the base stands for
+pub record IsListed (stage : Stage) (store : stores.StoreKept) : Type 0 where
+  pub base : Option stores.StoreKept
+  pub entries : List Entry
+  pub is : stage ≡ listing base entries
+  pub stands : (all : List Entry) → AreEntries base entries all → stores.StandsFor store all
+
+-- what pieces have made of it
+abbrev pub IsMade : Stage → Progress → Type 0
+IsMade stage progress.Fresh = stage ≡ fresh
+IsMade stage (progress.Storing reader) = stage ≡ storing reader
+IsMade stage (progress.Listing store) = IsListed stage store
+
+pub record IsReader (a : At) (reader : EntriesReader) : Type 0 where
+  pub piece : a.piece ≡ reader.piece.items
+  pub made : IsMade a.stage reader.progress

@@ -1,0 +1,16 @@
+//! A journal of the entries of a server, from which its store is made again after any crash. `specs/` holds the rules.
+#![tactic(auto)]
+
+mod class;
+mod fault;
+mod kept;
+mod laws;
+mod reader;
+mod rewriting;
+mod room;
+mod starting;
+
+pub use class::{EntryClass, class_of};
+pub use fault::StartFault;
+pub use kept::KeptEntries;
+pub use laws::entries_are_read_so;

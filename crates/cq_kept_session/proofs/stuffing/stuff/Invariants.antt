@@ -1,9 +1,0 @@
-use Rattle.std.proofs.Common.{◌≡◌, ◌++◌, ℕ, List, length}
-use Rattle.cq_kept_session.specs.within.Stuffing.{Stuffs}
-use Rattle.cq_kept_session.proofs.stuffing.stuff.Given as goal
-
-abbrev pub invariant-loop-byte : goal.invariant-loop-byte
-invariant-loop-byte l = (done : List ℕ) × (done ++ l.rest ≡ l.initial.rest) × Stuffs l.initial.text.items l.text.items done
-
-abbrev pub decreases-loop-byte : goal.decreases-loop-byte
-decreases-loop-byte l = length l.rest
