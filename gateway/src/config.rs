@@ -82,6 +82,12 @@ pub struct Options {
     /// The certificate of a cluster's authority, in PEM, where the cluster has certificates
     #[arg(long, value_name = "FILE", env = "HOBBYCHAIR_AUTHORITY")]
     authority: Option<PathBuf>,
+    /// For a front: speak TLS to clients, with this chain of certificates in PEM
+    #[arg(long, value_name = "FILE", env = "HOBBYCHAIR_TLS_CERTIFICATE")]
+    tls_certificate: Option<PathBuf>,
+    /// The private key of that, in PEM
+    #[arg(long, value_name = "FILE", env = "HOBBYCHAIR_TLS_KEY")]
+    tls_key: Option<PathBuf>,
     /// Under which address clients know the gateway, for the URLs of queues
     #[arg(long, env = "HOBBYCHAIR_URL")]
     url: Option<BaseUrl>,
@@ -371,6 +377,8 @@ impl Options {
             certificate: self.certificate.or(file.certificate),
             key: self.key.or(file.key),
             authority: self.authority.or(file.authority),
+            tls_certificate: self.tls_certificate.or(file.tls_certificate),
+            tls_key: self.tls_key.or(file.tls_key),
             url: self.url.or(file.url),
             allowed_hosts: self.allowed_hosts.or(file.allowed_hosts),
             account: self.account.or(file.account),
@@ -422,9 +430,15 @@ impl Options {
             let why = "a front's certificate, its key and the cluster's authority are given together";
             return Err(Misuse(why.into()).into());
         }
+        let tls = match (self.tls_certificate.clone(), self.tls_key.clone()) {
+            (Some(certificate), Some(key)) => Some((certificate, key)),
+            (None, None) => None,
+            _ => return Err(Misuse("a certificate for TLS and its key are given together".into()).into()),
+        };
         Ok(Some(front::Settings {
             cluster,
             etcd,
+            tls,
             files: IdentityFiles { certificate, key, authority },
             host: self.host.clone().unwrap_or_else(|| LOOPBACK.into()),
             port: self.port.unwrap_or(PORT),
@@ -456,6 +470,11 @@ impl Options {
 
     /// What a gateway is started with. `program` finds the program cq by what was said of it.
     pub fn settings(self, program: impl FnOnce(Option<String>) -> Result<String>) -> Result<Settings> {
+        if self.tls_certificate.is_some() || self.tls_key.is_some() {
+            let why =
+                "tls-certificate and tls-key are a front's, which has a cluster: a gateway has certificate and key";
+            return Err(Misuse(why.into()).into());
+        }
         let (mut certificate, mut members) = (None, None);
         match (self.certificate, self.key, self.authority, self.cluster) {
             (Some(of_server), Some(key), None, _) => certificate = Some((of_server, key)),

@@ -218,7 +218,8 @@ impl Entrance {
     }
 }
 
-fn log_read_again(what: &str, read: Option<Result<()>>) {
+/// Says whether files were read again.
+pub fn log_read_again(what: &str, read: Option<Result<()>>) {
     match read {
         None => {}
         Some(Ok(())) => tracing::info!("the {what} were read again"),
@@ -386,7 +387,8 @@ async fn answer(settings: &Settings, started: Started, signals: &mut Signals) ->
     let actions = Actions::new(store, owner, polls, settings.pauses, metrics, ending.clone(), keys.clone());
     actions.declare(&settings.queues).await;
     let local = listener.local_addr()?;
-    let addresses = Addresses { url: settings.url.clone(), local, has_tls: certificate.is_some() };
+    let (url, has_tls, behind_fronts) = (settings.url.clone(), certificate.is_some(), settings.beside_node);
+    let addresses = Addresses { url, local, has_tls, behind_fronts };
     let url = format!("{}://{local}", if identity.is_some() { "https" } else { addresses.scheme() });
     let budget = Budget::new(settings.request_memory);
     let (hosts, metrics) = (settings.hosts(), admin.metrics.clone());

@@ -3,6 +3,7 @@
 use std::fmt;
 use std::path::{Path, PathBuf};
 use std::sync::{Arc, PoisonError, RwLock};
+use std::time::Duration;
 
 use anyhow::Result;
 use hobbychair_cluster::pem::{certified_key, Pem};
@@ -13,6 +14,9 @@ use tokio_rustls::TlsAcceptor;
 
 /// What TLS calls HTTP/1.1 (RFC 7301, "TLS Application-Layer Protocol Negotiation (ALPN) Protocol IDs").
 const HTTP_1_1: &[u8] = b"http/1.1";
+
+/// So long a client may take to begin TLS.
+pub const LONGEST_HANDSHAKE: Duration = Duration::from_secs(10);
 
 /// A certificate with its key, in two files that can be read again.
 pub struct Certificate {

@@ -7,9 +7,11 @@ import itertools
 import json
 import signal
 import socket
+import ssl
 import threading
 import time
 from http.server import BaseHTTPRequestHandler, ThreadingHTTPServer
+from pathlib import Path
 
 import pytest
 
@@ -167,6 +169,27 @@ def test_operators_are_told_how_a_front_is(etcd):
         world.register(3, None)
         world.head(3)
         wait(10, lambda: get("/health")[0] == 503, "it is well")
+    finally:
+        world.end()
+
+
+def test_clients_speak_tls_to_a_front_that_has_a_certificate(etcd):
+    tls = Path(__file__).parent / "tls"
+    world = World(etcd, "--tls-certificate", str(tls / "p256.pem"), "--tls-key", str(tls / "p256.key"))
+    try:
+        assert world.front.url.startswith("https://127.0.0.1:")
+        port = int(world.front.url.rsplit(":", 1)[1])
+        trusting = ssl.create_default_context(cafile=str(tls / "authority.pem"))
+        connection = http.client.HTTPSConnection("localhost", port, timeout=30, context=trusting)
+        connection.request("POST", "/0/q", b"body")
+        assert connection.getresponse().read() == b"one"
+        [(_, _, heard, _)] = world.gateways[0].asked()
+        assert heard["x-forwarded-proto"] == "https" and heard["host"] == f"localhost:{port}"
+        # Without TLS nobody is answered.
+        with pytest.raises((OSError, http.client.HTTPException)):
+            plain = http.client.HTTPConnection("127.0.0.1", port, timeout=15)
+            plain.request("POST", "/0/q", b"body")
+            plain.getresponse()
     finally:
         world.end()
 

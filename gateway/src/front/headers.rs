@@ -21,6 +21,17 @@ static AGAIN: HeaderName = HeaderName::from_static("x-hobbychair-again");
 /// The cluster's time at the gateway that acts, in milliseconds, in each of its answers to fronts.
 static TIME: HeaderName = HeaderName::from_static("x-hobbychair-time");
 
+/// By which scheme a client came.
+static FORWARDED_PROTO: HeaderName = HeaderName::from_static("x-forwarded-proto");
+
+/// How a client came to a front.
+#[derive(Clone, Copy, Debug)]
+pub struct Came {
+    /// From this machine, where it may be a proxy of others: what it says of the scheme is believed.
+    pub is_near: bool,
+    pub by_tls: bool,
+}
+
 /// Headers that are about one connection (RFC 9110, 7.6.1), beside those that `Connection` names.
 const OF_CONNECTION: [&str; 9] = [
     "connection",
@@ -53,7 +64,7 @@ pub struct Asked {
 
 impl Asked {
     /// Nothing where the request isn't one of a resource here.
-    pub fn of(head: Parts, body: Bytes) -> Option<Asked> {
+    pub fn of(head: Parts, body: Bytes, came: Came) -> Option<Asked> {
         let Parts { method, uri, mut headers, .. } = head;
         if method == Method::CONNECT {
             return None;
@@ -62,6 +73,10 @@ impl Asked {
         // The body has one length, however it came.
         if headers.remove(CONTENT_LENGTH).is_some() || !body.is_empty() {
             headers.insert(CONTENT_LENGTH, body.len().into());
+        }
+        if !came.is_near || !headers.contains_key(&FORWARDED_PROTO) {
+            let scheme = if came.by_tls { "https" } else { "http" };
+            headers.insert(&FORWARDED_PROTO, HeaderValue::from_static(scheme));
         }
         // A target with a host counts for more than the header.
         if let Some(authority) = uri.authority() {
@@ -152,7 +167,21 @@ mod tests {
 
     fn asked(request: hyper::http::request::Builder, body: &'static str) -> Option<Asked> {
         let (head, ()) = request.body(()).unwrap().into_parts();
-        Asked::of(head, Bytes::from_static(body.as_bytes()))
+        Asked::of(head, Bytes::from_static(body.as_bytes()), Came { is_near: false, by_tls: false })
+    }
+
+    #[test]
+    fn who_is_a_proxy_here_says_by_which_scheme_its_clients_came_and_nobody_else() {
+        let scheme = |said: Option<&str>, is_near, by_tls| {
+            let request =
+                said.into_iter().fold(Request::get("/"), |request, said| request.header("x-forwarded-proto", said));
+            let asked =
+                Asked::of(request.body(()).unwrap().into_parts().0, Bytes::new(), Came { is_near, by_tls }).unwrap();
+            asked.headers[&FORWARDED_PROTO].to_str().unwrap().to_string()
+        };
+        assert_eq!([false, true].map(|by_tls| scheme(None, true, by_tls)), ["http", "https"]);
+        assert_eq!([false, true].map(|by_tls| scheme(Some("https"), false, by_tls)), ["http", "https"]);
+        assert_eq!([false, true].map(|by_tls| scheme(Some("https"), true, by_tls)), ["https", "https"]);
     }
 
     #[test]
@@ -197,6 +226,7 @@ mod tests {
                 ("host", "queues:80"),
                 ("x-amz-date", "d"),
                 ("x-amz-date", "e"),
+                ("x-forwarded-proto", "http"),
             ];
             wanted.extend(tried.filter(|tried| tried.is_again).map(|_| ("x-hobbychair-again", "true")));
             wanted.extend(tried.map(|_| ("x-hobbychair-until", "7")));

@@ -6,7 +6,9 @@ mod passing;
 mod times;
 
 use std::io;
-use std::os::unix::io::AsRawFd;
+use std::net::SocketAddr;
+use std::os::unix::io::{AsRawFd, RawFd};
+use std::path::PathBuf;
 use std::sync::Arc;
 use std::time::Duration;
 
@@ -18,8 +20,9 @@ use hyper::header::{HeaderValue, CONNECTION};
 use hyper::server::conn::Http;
 use hyper::service::service_fn;
 use hyper::{Body, Request, Response};
+use tokio::io::{AsyncRead, AsyncWrite};
 use tokio::net::{TcpListener, TcpStream};
-use tokio::signal::unix::{signal, SignalKind};
+use tokio::signal::unix::{signal, Signal, SignalKind};
 use tokio::sync::Semaphore;
 use tokio::time::{timeout, Instant};
 use uuid::Uuid;
@@ -31,9 +34,10 @@ use crate::ending::{End, Ending};
 use crate::errors::SqsError;
 use crate::http::{bodies, is_of_this_machine, listen, protocol_of, refused, to_be_written, Hosts, Places};
 use crate::http::{Progress, Watched, LONGEST_HEAD};
-use crate::serve::{listen_for_operators, notify_supervisor, say};
+use crate::serve::{listen_for_operators, log_read_again, notify_supervisor, say};
+use crate::tls::{Certificate, LONGEST_HANDSHAKE};
 
-use self::headers::Asked;
+use self::headers::{Asked, Came};
 use self::operators::{Figures, Operators};
 use self::passing::Passing;
 
@@ -54,6 +58,8 @@ pub struct Settings {
     pub etcd: Vec<String>,
     /// Its certificate, where the cluster has some.
     pub files: IdentityFiles,
+    /// A chain of certificates that clients are shown, and its key, where they speak TLS.
+    pub tls: Option<(PathBuf, PathBuf)>,
     pub host: String,
     pub port: u16,
     /// Everybody is served also from other machines.
@@ -68,6 +74,11 @@ pub struct Settings {
 /// Passes requests on until a signal comes. An error says why it couldn't begin.
 pub async fn serve(settings: Settings) -> Result<()> {
     let (mut interrupt, mut terminate) = (signal(SignalKind::interrupt())?, signal(SignalKind::terminate())?);
+    let certificate = match &settings.tls {
+        Some((certificate, key)) => Some(Arc::new(Certificate::read(certificate, key)?)),
+        None => None,
+    };
+    tokio::spawn(read_again(signal(SignalKind::hangup())?, certificate.clone()));
     let (host, port) = (&settings.host, settings.port);
     let listener = listen(host, port).with_context(|| format!("can't listen on {host}:{port}"))?;
     let local = listener.local_addr()?;
@@ -87,11 +98,12 @@ pub async fn serve(settings: Settings) -> Result<()> {
         tokio::spawn(serve_operators(listener, places.operators, Hosts::new(&[], None), answer));
     }
     let passing = Passing::new(follower, identity, figures.clone());
-    let front = Arc::new(Front { passing, figures, budget: Budget::new(settings.request_memory) });
+    let scheme = if certificate.is_some() { "https" } else { "http" };
+    let front = Arc::new(Front { passing, figures, budget: Budget::new(settings.request_memory), certificate });
     let (end, ending) = End::new();
     let mut served = tokio::spawn(front.serve(listener, places.served, ending));
     notify_supervisor(sd_notify::NotifyState::Ready);
-    say(&format!("listening on http://{local}"));
+    say(&format!("listening on {scheme}://{local}"));
     tokio::select! {
         _ = interrupt.recv() => {}
         _ = terminate.recv() => {}
@@ -106,11 +118,22 @@ pub async fn serve(settings: Settings) -> Result<()> {
     Ok(())
 }
 
+/// At each signal the certificate that clients are shown is read again. Where it can't be, it stays as it was.
+async fn read_again(mut hangups: Signal, certificate: Option<Arc<Certificate>>) {
+    while hangups.recv().await.is_some() {
+        let Some(certificate) = certificate.clone() else { continue };
+        let read = tokio::task::spawn_blocking(move || certificate.read_again());
+        log_read_again("certificate", read.await.ok());
+    }
+}
+
 /// What all connections share.
 struct Front {
     passing: Passing,
     figures: Arc<Figures>,
     budget: Budget,
+    /// What clients are shown, where they speak TLS.
+    certificate: Option<Arc<Certificate>>,
 }
 
 /// What the requests of one connection share, one after the other.
@@ -118,6 +141,7 @@ struct Visit {
     front: Arc<Front>,
     progress: Progress,
     share: Arc<Share>,
+    came: Came,
 }
 
 impl Front {
@@ -130,14 +154,14 @@ impl Front {
                 accepted = listener.accept() => accepted,
                 () = ending.comes() => break,
             };
-            let Ok((stream, _)) = accepted else {
+            let Ok((stream, peer)) = accepted else {
                 tokio::time::sleep(PAUSE).await;
                 continue;
             };
             let (front, ending) = (self.clone(), ending.clone());
             tokio::spawn(async move {
                 let _place = place;
-                front.converse(stream, ending).await;
+                front.welcome(stream, peer, ending).await;
             });
         }
         drop(listener);
@@ -145,13 +169,33 @@ impl Front {
         let _ = places.acquire_many(most).await;
     }
 
-    async fn converse(self: Arc<Front>, stream: TcpStream, mut ending: Ending) {
+    async fn welcome(self: Arc<Front>, stream: TcpStream, peer: SocketAddr, mut ending: Ending) {
         // Where this fails, small answers wait a little longer.
         let _ = stream.set_nodelay(true);
-        let progress = Progress::new(LONGEST_REQUEST).of_socket(stream.as_raw_fd());
+        let socket = stream.as_raw_fd();
+        let came = Came { is_near: is_of_this_machine(peer.ip()), by_tls: self.certificate.is_some() };
+        let Some(certificate) = self.certificate.clone() else {
+            return self.converse(stream, socket, came, ending).await;
+        };
+        let shaken = tokio::select! {
+            shaken = timeout(LONGEST_HANDSHAKE, certificate.acceptor().accept(stream)) => shaken,
+            () = ending.comes() => return,
+        };
+        match shaken {
+            Ok(Ok(stream)) => Box::pin(self.converse(stream, socket, came, ending)).await,
+            Ok(Err(error)) => tracing::debug!(%peer, "no TLS came about: {error}"),
+            Err(_) => tracing::debug!(%peer, "no TLS came about in time"),
+        }
+    }
+
+    async fn converse<S>(self: Arc<Front>, stream: S, socket: RawFd, came: Came, mut ending: Ending)
+    where
+        S: AsyncRead + AsyncWrite + Unpin + Send + 'static,
+    {
+        let progress = Progress::new(LONGEST_REQUEST).of_socket(socket);
         let stream = Watched::new(stream, progress.clone());
         let share = Arc::new(self.budget.share());
-        let visit = Arc::new(Visit { front: self, progress: progress.clone(), share });
+        let visit = Arc::new(Visit { front: self, progress: progress.clone(), share, came });
         let mut http = Http::new();
         http.http1_only(true).max_buf_size(LONGEST_HEAD);
         let connection = http.serve_connection(stream, service_fn(move |request| visit.clone().handle(request)));
@@ -198,7 +242,7 @@ impl Visit {
             Err(error) => return refused(protocol, &error, Uuid::new_v4(), true),
         };
         self.progress.is_read();
-        let passed = match Asked::of(head, body) {
+        let passed = match Asked::of(head, body, self.came) {
             Some(asked) => self.front.passing.pass(&asked, arrived, &self.share).await,
             None => Err(SqsError::InvalidParameterValue("A front can't pass this request on.".into())),
         };

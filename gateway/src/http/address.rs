@@ -30,6 +30,8 @@ pub struct Addresses {
     /// The socket that listens.
     pub local: SocketAddr,
     pub has_tls: bool,
+    /// Fronts of a cluster alone ask here: they say by which scheme their clients came.
+    pub behind_fronts: bool,
 }
 
 impl Addresses {
@@ -42,13 +44,15 @@ impl Addresses {
     }
 
     /// The URL before `/{account}/{queue}` in what a client is told: the one that was said at the start, or else the
-    /// host that the client names. A client of this machine may be a proxy, so what it says of the scheme is believed.
+    /// host that the client names. A client of this machine may be a proxy, so what it says of the scheme is believed, and
+    /// so is what a front says.
     pub fn base_url(&self, headers: &HeaderMap, peer: SocketAddr) -> String {
         if let Some(url) = &self.url {
             return url.clone();
         }
         let own = self.scheme();
-        let scheme = if is_of_this_machine(peer.ip()) { forwarded_scheme(headers).unwrap_or(own) } else { own };
+        let is_believed = self.behind_fronts || is_of_this_machine(peer.ip());
+        let scheme = if is_believed { forwarded_scheme(headers).unwrap_or(own) } else { own };
         match headers.get(HOST).and_then(|host| host.to_str().ok()).filter(|host| is_authority(host)) {
             Some(host) => format!("{scheme}://{host}"),
             None => format!("{scheme}://{}", self.local),
@@ -106,7 +110,8 @@ mod tests {
 
     #[test]
     fn urls_have_the_host_that_the_client_names() {
-        let mut addresses = Addresses { url: None, local: "127.0.0.1:9324".parse().unwrap(), has_tls: false };
+        let mut addresses =
+            Addresses { url: None, local: "127.0.0.1:9324".parse().unwrap(), has_tls: false, behind_fronts: false };
         let (near, far) = ("127.0.0.1:5", "10.1.2.3:5");
         assert_eq!(base_url(&addresses, near, &[]), "http://127.0.0.1:9324");
         assert_eq!(base_url(&addresses, far, &[("host", "queues:80")]), "http://queues:80");
@@ -116,6 +121,9 @@ mod tests {
         assert_eq!(base_url(&addresses, "[::ffff:127.0.0.1]:5", &proxied), "https://queues");
         assert_eq!(base_url(&addresses, far, &proxied), "http://queues");
         assert_eq!(base_url(&addresses, near, &[("host", "queues"), ("x-forwarded-proto", "ftp")]), "http://queues");
+        addresses.behind_fronts = true;
+        assert_eq!(base_url(&addresses, far, &proxied), "https://queues");
+        assert_eq!(base_url(&addresses, far, &[("host", "queues")]), "http://queues");
         addresses.has_tls = true;
         assert_eq!(base_url(&addresses, far, &[("host", "[::1]:9324")]), "https://[::1]:9324");
         addresses.url = Some("https://known".into());

@@ -22,16 +22,13 @@ use super::places::Places;
 use super::watched::{Progress, Watched};
 use super::{answers, Admitted, Arrival, Connection, Service, LONGEST_HEAD};
 use crate::ending::Ending;
-use crate::tls::Certificate;
+use crate::tls::{Certificate, LONGEST_HANDSHAKE};
 
 /// How many connections may wait to be accepted.
 const BACKLOG: u32 = 4096;
 
 /// A request is whole so long after its first byte.
 const LONGEST_REQUEST: Duration = Duration::from_secs(30);
-
-/// So long a client may take to begin TLS.
-const LONGEST_HANDSHAKE: Duration = Duration::from_secs(10);
 
 /// A client that is turned away has so long for its request.
 const LONGEST_TURNING_AWAY: Duration = Duration::from_secs(5);

@@ -7,6 +7,7 @@ use tokio::io::{AsyncReadExt, AsyncWriteExt};
 use tokio::net::{TcpListener, TcpStream};
 use tokio::sync::mpsc::{unbounded_channel, UnboundedReceiver};
 
+use super::super::headers::Came;
 use super::*;
 use crate::budget::Budget;
 
@@ -75,7 +76,7 @@ fn passing_by(follower: Follower) -> Passing {
 
 fn asked() -> Asked {
     let request = Request::get("/1/q").header("host", "queues").body(()).unwrap();
-    Asked::of(request.into_parts().0, Bytes::new()).unwrap()
+    Asked::of(request.into_parts().0, Bytes::new(), Came { is_near: true, by_tls: false }).unwrap()
 }
 
 fn said<'h>(head: &'h str, name: &str) -> &'h str {
