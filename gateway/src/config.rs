@@ -631,11 +631,38 @@ mod tests {
         );
         assert_eq!((front.open, front.connections, front.request_memory), (false, 10_000, 64 << 20));
         assert!(Options::default().front().unwrap().is_none());
+        assert!(front.files.certificate.is_none());
+        let shown = with_files(options.clone()).front().unwrap().unwrap().files;
+        assert!(shown.certificate.is_some() && shown.key.is_some() && shown.authority.is_some());
+        let shows_half = Options { authority: None, ..with_files(options.clone()) };
         let half = Options { etcd: None, ..options.clone() };
         let stranger = Options { journal: Some("j".into()), ..options.clone() };
         let many = Options { connections: Some(0), ..options };
-        for bad in [half, stranger, many] {
+        for bad in [half, shows_half, stranger, many] {
             assert!(bad.front().unwrap_err().is::<Misuse>());
+        }
+    }
+
+    fn with_files(options: Options) -> Options {
+        let file = |name: &str| Some(PathBuf::from(name));
+        Options { certificate: file("c"), key: file("k"), authority: file("a"), ..options }
+    }
+
+    #[test]
+    fn a_gateway_beside_a_node_shows_the_nodes_certificate_to_fronts() {
+        let cluster = Some("c".into());
+        let beside = Options { beside_node: true, cluster, ..with_files(Options::default()) };
+        assert!(beside.front().unwrap().is_none());
+        let told = settings(beside.clone()).unwrap();
+        let (cluster, files) = told.members.unwrap();
+        assert_eq!((cluster.as_str(), files.authority, told.certificate), ("c", Some("a".into()), None));
+        // Another one shows its certificate to all clients, and has no authority.
+        let alone = Options { authority: None, ..with_files(Options::default()) };
+        let told = settings(alone).unwrap();
+        assert!(told.members.is_none() && told.certificate == Some(("c".into(), "k".into())));
+        let of_no_cluster = Options { cluster: None, ..beside.clone() };
+        for bad in [of_no_cluster, Options { beside_node: false, ..beside.clone() }, Options { key: None, ..beside }] {
+            assert!(settings(bad).unwrap_err().is::<Misuse>());
         }
     }
 

@@ -34,6 +34,7 @@ def certificates(tmp_path_factory) -> Certificates:
     made = Certificates(tmp_path_factory.mktemp("certificates"), NAME)
     for role in ("node", "front", "master"):
         made.has(role, role)
+    made.make("--role", "node", "--name", "node3", "--days", "2")
     made.make_by_dates("node", "expired", "20200101000000Z", "20210101000000Z")
     return made
 
@@ -179,6 +180,12 @@ def test_clients_of_a_front_are_served(served):
     shown = run("cluster", "status", *served.cluster.which("master"))
     assert shown.stdout.splitlines()[2].split()[2] == "head", shown
     assert run("cluster", "log", *served.cluster.which("front")).returncode == 0
+
+
+def test_an_end_that_is_near_is_logged(served):
+    said = "this process's certificate expires within 14 days"
+    served.cluster.node(3).logs(said)
+    assert said not in served.cluster.node(1).log.read_text()
 
 
 def test_strangers_at_a_node_are_refused(served, certificates, others, of_another_cluster):

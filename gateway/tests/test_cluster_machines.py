@@ -91,8 +91,12 @@ def why_not() -> str | None:
         return "ip isn't there: Debian's iproute2 has it"
     if os.geteuid() != 0:
         return "only root makes namespaces of the network"
-    tried = run("unshare", "--net", "ip", "link", "add", "name", "one", "type", "veth", "peer", "name", "two")
-    return None if tried.returncode == 0 else f"no namespaces of the network can be made here: {tried.stderr.strip()}"
+    name = f"hobbychair-{os.getpid()}-tried"
+    at = ["ip", "netns", "exec", name, "ip", "link", "add", "name"]
+    tries = [["ip", "netns", "add", name], [*at, "one", "type", "veth", "peer", "name", "two"], [*at, "three", "type", "bridge"]]
+    failed = next((done for done in map(lambda words: run(*words), tries) if done.returncode != 0), None)
+    run("ip", "netns", "del", name)
+    return f"no namespaces of the network can be made here: {failed.stderr.strip()}" if failed else None
 
 
 class Machines:

@@ -39,7 +39,7 @@ pub struct Follower {
 impl Follower {
     /// Finds the cluster, and follows it from then on. An error says why it isn't found.
     pub async fn begin(name: &str, urls: &[String], identity: Option<Arc<Identity>>) -> Result<Follower> {
-        let cluster = Cluster::find(name, urls, identity).await?.impatient();
+        let cluster = Cluster::find(name, urls, identity).await?.for_long();
         let (sender, acting) = watch::channel(None);
         let look = Arc::new(Notify::new());
         tokio::spawn(cluster.etcd.clone().watch(cluster.keys.chain(), look.clone()));

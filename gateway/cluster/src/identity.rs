@@ -8,7 +8,7 @@ use std::fmt;
 use std::io;
 use std::path::PathBuf;
 use std::sync::Arc;
-use std::time::SystemTime;
+use std::time::{Duration, SystemTime};
 
 use anyhow::{anyhow, bail, Result};
 use clap::{Args, ValueEnum};
@@ -19,6 +19,7 @@ use rustls::{Certificate, ClientConfig, RootCertStore, ServerConfig, ServerName,
 use serde::{Deserialize, Serialize};
 use sha2::{Digest, Sha256};
 use tokio::net::TcpStream;
+use tokio::time::sleep;
 use tokio_rustls::{client, server, TlsAcceptor, TlsConnector};
 use webpki::{DnsNameRef, EndEntityCert, SignatureAlgorithm, Time, TrustAnchor};
 
@@ -29,6 +30,11 @@ pub const DOMAIN: &str = "hobbychair.internal";
 
 /// A part of a name of hosts isn't longer.
 const LONGEST_LABEL: usize = 63;
+
+const DAY: Duration = Duration::from_secs(24 * 60 * 60);
+
+/// An end that comes in this time is told of.
+const SOON: Duration = Duration::from_secs(14 * DAY.as_secs());
 
 /// What a certificate is for.
 #[derive(Clone, Copy, Debug, PartialEq, Eq, ValueEnum)]
@@ -203,23 +209,45 @@ impl Identity {
 
     /// Whether others would take the own certificate: better said at the start than by each of them.
     fn test_own(&self, roles: &[Role]) -> Result<()> {
-        let chain: Vec<&[u8]> = self.own.cert.iter().map(|one| one.0.as_slice()).collect();
-        let (own, between) = chain.split_first().ok_or_else(|| anyhow!("it has no certificate"))?;
-        let own = EndEntityCert::try_from(*own)?;
-        let anchors = self.authority.iter().map(|one| TrustAnchor::try_from_cert_der(&one.0));
-        let anchors = anchors.collect::<Result<Vec<_>, _>>()?;
-        let now = Time::try_from(SystemTime::now())?;
-        let anchors_for_client = webpki::TlsClientTrustAnchors(&anchors);
-        own.verify_is_valid_tls_client_cert(ALGORITHMS, &anchors_for_client, between, now).map_err(said_of_own)?;
-        if roles.contains(&Role::Node) && self.peer(&self.own.cert[0]).is(Role::Node) {
-            let anchors = webpki::TlsServerTrustAnchors(&anchors);
-            own.verify_is_valid_tls_server_cert(ALGORITHMS, &anchors, between, now).map_err(said_of_own)?;
-        }
-        if roles.is_empty() || roles.iter().any(|role| self.peer(&self.own.cert[0]).is(*role)) {
+        let own = self.peer(&self.own.cert[0]);
+        self.verify_own(SystemTime::now(), own.is(Role::Node)).map_err(said_of_own)?;
+        if roles.is_empty() || roles.iter().any(|role| own.is(*role)) {
             return Ok(());
         }
         let names: Vec<String> = roles.iter().map(|role| role.name(&self.cluster)).collect();
         bail!("it isn't for this: it lacks the name {}", names.join(" or "))
+    }
+
+    /// Whether others take the own certificate at a moment, as a client's, and a server's too.
+    fn verify_own(&self, moment: SystemTime, is_server: bool) -> Result<(), webpki::Error> {
+        let chain: Vec<&[u8]> = self.own.cert.iter().map(|one| one.0.as_slice()).collect();
+        let (own, between) = chain.split_first().ok_or(webpki::Error::BadDer)?;
+        let own = EndEntityCert::try_from(*own)?;
+        let anchors = self.authority.iter().map(|one| TrustAnchor::try_from_cert_der(&one.0));
+        let anchors = anchors.collect::<Result<Vec<_>, _>>()?;
+        let moment = Time::try_from(moment).map_err(|_| webpki::Error::BadDerTime)?;
+        if is_server {
+            let anchors = webpki::TlsServerTrustAnchors(&anchors);
+            own.verify_is_valid_tls_server_cert(ALGORITHMS, &anchors, between, moment)?;
+        }
+        own.verify_is_valid_tls_client_cert(ALGORITHMS, &webpki::TlsClientTrustAnchors(&anchors), between, moment)
+    }
+
+    /// Whether the own certificate has expired so much later.
+    fn has_expired_in(&self, time: Duration) -> bool {
+        self.verify_own(SystemTime::now() + time, false) == Err(webpki::Error::CertExpired)
+    }
+
+    /// Logs it once a day, for good, where the own certificate expires soon: a process is to be started with another one.
+    pub async fn tell_of_end(self: Arc<Identity>) {
+        loop {
+            if self.has_expired_in(Duration::ZERO) {
+                tracing::error!("this process's certificate has expired: no connection comes about any more");
+            } else if self.has_expired_in(SOON) {
+                tracing::warn!("this process's certificate expires within {} days", SOON.as_secs() / DAY.as_secs());
+            }
+            sleep(DAY).await;
+        }
     }
 
     fn peer(&self, certificate: &Certificate) -> Peer {

@@ -182,7 +182,7 @@ pub struct Master {
 
 /// Runs a candidate until its cluster is another one, or it fails.
 pub async fn run(cluster: Cluster, program: &str) -> Result<()> {
-    let cluster = cluster.impatient();
+    let cluster = cluster.for_long();
     let look = Arc::new(Notify::new());
     tokio::spawn(cluster.etcd.clone().watch(cluster.keys.master(), look.clone()));
     let servers = cluster.settings.servers;

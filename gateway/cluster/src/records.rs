@@ -333,8 +333,11 @@ impl Cluster {
         Ok(Cluster { name: name.into(), etcd, settings, keys, identity })
     }
 
-    /// For who tries again and again.
-    pub fn impatient(self) -> Cluster {
+    /// For who goes on for long: it tries again and again, and its log says where its certificate expires soon.
+    pub fn for_long(self) -> Cluster {
+        if let Some(identity) = self.identity.clone() {
+            tokio::spawn(identity.tell_of_end());
+        }
         Cluster { etcd: self.etcd.impatient(), ..self }
     }
 

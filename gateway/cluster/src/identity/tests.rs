@@ -168,6 +168,17 @@ fn an_own_certificate_that_others_would_refuse_is_told_at_the_start() {
 }
 
 #[test]
+fn an_end_that_is_near_is_known() {
+    let folder = Folder::new();
+    let later = folder.make("one", &[Role::Node], "later");
+    make(&Wanted { days: Some(2), ..wanted(&folder.0, "one", &[Role::Node], Some("soon")) }).unwrap();
+    let soon = folder.files("soon").identity("one", &[Role::Node]).unwrap().unwrap();
+    let ends = |identity: &Identity| [0, 1, 3].map(|days| identity.has_expired_in(days * DAY));
+    assert_eq!((ends(&soon), ends(&later)), ([false, false, true], [false, false, false]));
+    assert!(soon.has_expired_in(SOON) && !later.has_expired_in(SOON) && later.has_expired_in(366 * DAY));
+}
+
+#[test]
 fn a_fingerprint_is_a_text_of_64_digits() {
     let empty = Fingerprint::of(&Certificate(Vec::new()));
     assert_eq!(empty.to_string(), "e3b0c44298fc1c149afbf4c8996fb92427ae41e4649b934ca495991b7852b855");

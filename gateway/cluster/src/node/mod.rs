@@ -221,7 +221,7 @@ pub async fn run(cluster: Cluster, settings: Settings) -> Result<End> {
     let (events, heard) = unbounded_channel();
     let child = start_child(&cluster, id, &settings, events.clone())?;
     let node = Arc::new(Shared {
-        cluster: cluster.impatient(),
+        cluster: cluster.for_long(),
         id,
         nonce,
         limits: settings.limits,
