@@ -216,6 +216,11 @@ impl Status {
         self.servers.iter().filter(|server| server.beats).count()
     }
 
+    /// Whether a server acts.
+    pub fn is_answering(&self) -> bool {
+        self.servers.iter().any(|server| server.is_acting)
+    }
+
     /// In columns, for people.
     pub fn columns(&self) -> String {
         let mut out = String::new();

@@ -259,7 +259,7 @@ async fn tell_of(
             }
         }
         let status = status::look(cluster).await?;
-        if status.beating() >= nodes as usize {
+        if status.beating() >= nodes as usize && status.is_answering() {
             say(status.columns().trim_end());
             break;
         }
