@@ -4,8 +4,9 @@
 //! `wire`). A candidate for the master (`master`) appends lines (`decision`, of what `silence` and `roster` say) to a log
 //! in etcd (`etcd`, `records`); `cut` says which links carry nothing. The node of the head starts the gateway that acts
 //! (`node/gateway`, `pipe`), and fronts find it (`acting`). Who is at the other end of a connection (`transport`) is known by
-//! certificates (`identity`, `pem`), which `certificates` makes. Two rules are kept: no clock and no lease is part of what keeps data safe, and a server
-//! ends only because the log says so, or by a fault of its own.
+//! certificates (`identity`, `pem`), which `certificates` makes. `memory` says how much there is. Two rules are kept: no
+//! clock and no lease is part of what keeps data safe, and a server ends only because the log says so, by a fault of its own,
+//! or since whoever runs it insists.
 
 pub mod acting;
 mod addresses;
