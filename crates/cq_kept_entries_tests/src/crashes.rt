@@ -15,6 +15,23 @@ const SEEDS: u64 = 300;
 
 const TORN: TornWrites = TornWrites::OldOrNew;
 
+/// Rewrites what is kept, or leaves it.
+fn rewrite_or_leave<D: Device>(
+    alloc: Global,
+    kept: &mut KeptEntries<D>,
+    random: &mut Xoshiro256PlusPlus,
+    count: u64,
+) -> Result<(), Broken>
+    requires { IsKept kept.old }
+    ensures { OnOk result (IsKept kept.new) }
+{
+    if random.next_u32() % 2 == 1 {
+        return Ok(());
+    }
+    kept.rewrite(&store_of(alloc, count)?)?;
+    Ok(())
+}
+
 /// Keeps two entries at a time, and rewrites what is kept behind some of them, up to the first fault. `told` has how many were kept.
 fn keep_and_rewrite<D: Device>(
     alloc: Global,
@@ -29,9 +46,7 @@ fn keep_and_rewrite<D: Device>(
         let first = pair * 2 + 1;
         keep(alloc, kept, first, first + 1)?;
         *told = first + 1;
-        if random.next_u32() % 2 == 0 {
-            kept.rewrite(&store_of(alloc, *told)?)?;
-        }
+        rewrite_or_leave(alloc, kept, random, *told)?;
     }
     Ok(())
 }
@@ -54,7 +69,7 @@ fn is_kept(alloc: Global, seed: u64) -> Result<bool, Fail> {
     let medium = file.into_medium(&mut random, TORN);
     let (_, mut store) = open(alloc, medium)?;
     let count = store.count();
-    let is_told = count == told || count == told + 2;
+    let is_told = count == told || count == told.saturating_add(2);
     Ok(goes_on(alloc, &mut store, count)? && is_told)
 }
 

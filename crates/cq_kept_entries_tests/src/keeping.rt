@@ -135,6 +135,22 @@ pub(crate) fn goes_on(alloc: Global, store: &mut Store, count: u64) -> Result<bo
     Ok(is_count && told.as_slice() == answered(alloc, &mut other, &entry)?.as_slice())
 }
 
+/// Adds the entries from one number on, up to the one before `end`.
+fn add_all<D: Device>(
+    alloc: Global,
+    kept: &mut KeptEntries<D>,
+    first: u64,
+    end: u64,
+) -> Result<(), Broken>
+    requires { IsKept kept.old }
+    ensures { OnOk result (IsKept kept.new) }
+{
+    for number in first..end {
+        kept.add(&entry_of(alloc, number)?)?;
+    }
+    Ok(())
+}
+
 /// Adds the entries of these numbers, and keeps them.
 pub(crate) fn keep<D: Device>(
     alloc: Global,
@@ -145,9 +161,7 @@ pub(crate) fn keep<D: Device>(
     requires { IsKept kept.old }
     ensures { OnOk result (IsKept kept.new) }
 {
-    for number in first..=last.min(1_000) {
-        kept.add(&entry_of(alloc, number)?)?;
-    }
+    add_all(alloc, kept, first, last.saturating_add(1))?;
     kept.commit()?;
     Ok(())
 }
@@ -210,12 +224,10 @@ fn a_batch_needs_space(rt: HostRuntime) -> Result<(), Fail> {
     let device = Memory::new(alloc, vec![in alloc; 0u8; whole]?, TornWrites::OldOrNew);
     let mut kept = KeptEntries::create(alloc, device, HALF, LEN)?;
     keep(alloc, &mut kept, 1, 2)?;
-    for number in 3..=20 {
-        kept.add(&entry_of(alloc, number)?)?;
-    }
+    add_all(alloc, &mut kept, 3, 21)?;
+    assert!(rt; !kept.has_room(EntryClass::Adds, 100));
     assert_eq!(rt; kept.commit(), Err(LogFault::Full));
     assert!(rt; !kept.is_settled());
-    assert!(rt; !kept.has_room(EntryClass::Adds, 100));
     let bytes = kept.into_journal().into_device().bytes().to_vec(alloc)?;
     let (_, mut store) = open(alloc, bytes)?;
     assert!(rt; goes_on(alloc, &mut store, 2)?);
@@ -244,6 +256,9 @@ fn entries_fill_no_journal(rt: HostRuntime) -> Result<(), Fail> {
         answered(alloc, &mut store, &entry)?;
     }
     let bytes = kept.into_journal().into_device().bytes().to_vec(alloc)?;
+    if bytes.len() < 2 * HALF {
+        return Err(Broken::NoValue.into());
+    }
     let (_, again) = KeptEntries::open(
         alloc,
         Memory::new(alloc, bytes, TornWrites::OldOrNew),
