@@ -84,6 +84,10 @@ def test_one_that_joins_is_given_up_where_too_much_waits_for_it(start):
     cluster, users = start(words=lambda number: ["--joiner-memory", "1KiB"])
     cluster.start_node()
     node = cluster.nodes[3]
+    # Nothing comes to it.
+    cluster.put_between(node)
+    cluster.between[-1].cut()
+    cluster.node(3).logs("too much waits for a server that joins")
     wait(15, lambda: not node.lives(), "it isn't given up")
     assert node.process.returncode == 0 and cluster.detected() == [4]
     answered(users)

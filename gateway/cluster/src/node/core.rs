@@ -116,6 +116,8 @@ pub struct Core {
     is_stuck: bool,
     /// Since when it is to end.
     leaving: Option<Instant>,
+    /// A server that joins, for which too much waits here.
+    late_joiner: Option<u32>,
     ticked: Instant,
     /// When clients were told where the server stands.
     said: Instant,
@@ -149,6 +151,7 @@ impl Core {
             told: Instant::now(),
             is_stuck: false,
             leaving: None,
+            late_joiner: None,
             ticked: Instant::now(),
             said: Instant::now(),
             end: None,
@@ -594,6 +597,7 @@ impl Core {
             lock(&self.node.clock).lead(clock::wall(), clock::since_start());
         }
         self.look_at_server();
+        self.look_at_joiner();
         if self.leaving.is_some_and(|since| since.elapsed() > LEAVING) {
             let seconds = LEAVING.as_secs();
             return self.fail(format!("it was told to, and the chain hasn't let go of it within {seconds} s"));
@@ -624,11 +628,20 @@ impl Core {
         self.is_stuck = is_stuck;
     }
 
-    /// The server that joins, if too much waits for it here.
-    fn late_joiner(&self) -> Option<u32> {
-        let joiner = self.chain.as_ref()?.joiner?;
-        let waiting = self.links.get(&joiner)?.waiting_bytes();
-        (waiting as u64 > self.node.limits.joiner).then_some(joiner)
+    /// Looks whether too much waits here for the server that joins.
+    fn look_at_joiner(&mut self) {
+        let joiner = self.chain.as_ref().and_then(|chain| chain.joiner);
+        let waiting = joiner.and_then(|joiner| self.links.get(&joiner)).map_or(0, |link| link.waiting_bytes());
+        let late = joiner.filter(|_| waiting as u64 > self.node.limits.joiner);
+        if late.is_some() && late != self.late_joiner {
+            tracing::warn!(
+                server = late,
+                bytes = waiting,
+                "too much waits for a server that joins: it is to be given up"
+            );
+            self.node.look.notify_one();
+        }
+        self.late_joiner = late;
     }
 
     fn report(&self) {
@@ -640,7 +653,7 @@ impl Core {
             hears: self.peers.iter().filter_map(hears).collect(),
             clients: self.streams.len(),
             condemned: self.is_stuck.then_some("its process doesn't answer").or(leaves),
-            late_joiner: self.late_joiner(),
+            late_joiner: self.late_joiner,
             gateway: self.gateway.phase(),
         };
     }
