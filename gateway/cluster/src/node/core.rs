@@ -546,6 +546,11 @@ impl Core {
             self.end = Some(End::Dropped);
             return;
         }
+        if self.leaving.is_some() && !has_place {
+            // It was told to end before it knew the chain.
+            self.end = Some(End::Left);
+            return;
+        }
         for (number, piece) in orders {
             let inbox = self.inboxes.entry(Party::Master).or_insert_with(|| Inbox::new(Party::Master));
             inbox.push(Place { number, index: 0 }, piece);
