@@ -4,13 +4,14 @@ use std::io::{self, Write};
 use std::os::unix::fs::PermissionsExt;
 use std::path::{Path, PathBuf};
 
-use anyhow::{anyhow, Result};
+use anyhow::{anyhow, Context, Result};
 use clap::{Args, CommandFactory, Parser, Subcommand};
 use clap_complete::Shell;
 use hobbychair_cluster::command_line as cluster;
 
 use crate::config::{LogFormat, LogLevel, LogSettings, Misuse, Options};
 use crate::front;
+use crate::history;
 use crate::inspect;
 use crate::log;
 use crate::serve::{self, serve};
@@ -41,6 +42,11 @@ enum Command {
         journal: Journal,
         /// The copy, named in the same way
         copy: PathBuf,
+    },
+    /// Say whether the rules allow a recorded history of requests and answers, of any service of FIFO queues
+    Check {
+        /// The history, a line of JSON for each request [default: standard input]
+        file: Option<PathBuf>,
     },
     /// Run a server of a chain on several machines
     Node(Box<cluster::Node>),
@@ -103,6 +109,17 @@ fn run(command: Command) -> Result<()> {
         Command::Verify(Journal { file, cq }) => inspect::verify(&program(cq)?, &file, &mut out)?,
         Command::Backup { journal: Journal { file, cq }, copy } => {
             inspect::back_up(&program(cq)?, &file, &copy, &mut out)?;
+        }
+        Command::Check { file } => {
+            let told = match file {
+                Some(file) => {
+                    let input = std::fs::File::open(&file).with_context(|| file.display().to_string())?;
+                    history::check(io::BufReader::new(input), &mut out)?
+                }
+                None => history::check(io::stdin().lock(), &mut out)?,
+            };
+            out.flush()?;
+            anyhow::ensure!(!told.is_refuted, "the rules don't allow this history");
         }
         Command::Node(node) => {
             begin_log(plain_log())?;

@@ -22,6 +22,7 @@ mod errors;
 mod frames;
 mod front;
 mod handles;
+mod history;
 mod http;
 mod inspect;
 mod journal;

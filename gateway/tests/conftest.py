@@ -6,6 +6,7 @@ import itertools
 import re
 import shutil
 import subprocess
+import sys
 import time
 from collections.abc import Callable, Iterator
 from pathlib import Path
@@ -13,7 +14,10 @@ from typing import Any
 
 import pytest
 
-from started import START, ByBoto3, ByJson, ByQuery, Refused, Started, boto3_client, gateway_program, program
+from started import START, TOP, ByBoto3, ByJson, ByQuery, Refused, Started, boto3_client, gateway_program, program
+
+sys.path.append(str(TOP / "check"))
+from recorder import Recorder  # noqa: E402
 
 try:
     import moto
@@ -73,7 +77,9 @@ def small_disk(tmp_path) -> Iterator[Callable[[str], Path]]:
     yield mount
     for room in disks:
         # A program that was just killed may have its file for a moment.
+        begun = time.monotonic()
         while subprocess.run(["umount", str(room)]).returncode != 0:
+            assert time.monotonic() - begun < 20, "a program that the test began has a file of the disk still"
             time.sleep(0.1)
 
 
@@ -119,11 +125,26 @@ class Rules:
         assert re.fullmatch(rf"(AWS\.SimpleQueueService\.)?{code}", refusal.value.code)
 
 
+# Rules of which the other one is a service's choice.
+CHOICES = {"test_sequence_numbers_rise", "test_groups_come_one_after_the_other"}
+
+
+def refuted(history: Path) -> str:
+    """The first answer of a history that the rules don't allow; nothing where they allow all."""
+    judged = subprocess.run([gateway_program(), "check", str(history)], capture_output=True, text=True)
+    assert judged.returncode in (0, 1), judged.stderr
+    return judged.stdout if judged.returncode else ""
+
+
 @pytest.fixture(params=["gateway", "moto"])
-def rules(request, monkeypatch):
+def rules(request, monkeypatch, tmp_path):
+    """What is asked and answered is recorded, and `hobbychair check` allows it where the rules are followed."""
+    history = tmp_path / "history.jsonl"
     if request.param != "moto":
         gateway = request.getfixturevalue(request.param)
-        yield Rules(ByBoto3(gateway.client()), lambda step: gateway.set_clock(gateway.moment + step))
+        client = Recorder(history.open("w"), lambda: gateway.moment).watch(gateway.client())
+        yield Rules(ByBoto3(client), lambda step: gateway.set_clock(gateway.moment + step))
+        assert not refuted(history)
         return
     if moto is None:
         pytest.skip("moto isn't installed")
@@ -134,7 +155,14 @@ def rules(request, monkeypatch):
     def move(step: int) -> None:
         moment[0] += step
 
-    if request.node.get_closest_marker("moto_differs"):
+    differs = request.node.get_closest_marker("moto_differs")
+    if differs:
         request.node.add_marker(pytest.mark.xfail(strict=True, reason="moto's rule is another one"))
     with moto.mock_aws():
-        yield Rules(ByBoto3(boto3_client(None)), move)
+        yield Rules(ByBoto3(Recorder(history.open("w"), lambda: moment[0]).watch(boto3_client(None))), move)
+    found = refuted(history)
+    if differs and request.node.originalname not in CHOICES:
+        assert found, history.read_text()
+    else:
+        # moto tells a repeated send another MessageId, whatever the rule is about.
+        assert not found or "that of the first send" in found, found

@@ -100,3 +100,17 @@ def test_cq_ends_with_the_gateway():
             return
         time.sleep(0.05)
     raise AssertionError("cq still runs")
+
+
+def test_a_history_is_judged_by_its_status(tmp_path):
+    example = TOP / "examples" / "histories" / "two-at-once.jsonl"
+    refuted = run("check", str(example))
+    assert (refuted.returncode, refuted.stderr) == (1, "hobbychair: the rules don't allow this history\n")
+    assert refuted.stdout.startswith("line 5, ReceiveMessage: it handed m2")
+    good = tmp_path / "good.jsonl"
+    good.write_text("\n".join(example.read_text().splitlines()[:4]))
+    assert (run("check", str(good)).returncode, run("check", str(good)).stdout) == (0, "4 answers are as the rules say; of 0 they say nothing\n")
+    good.write_text("{}\n")
+    bad = run("check", str(good))
+    assert bad.returncode == 2 and bad.stderr.startswith("hobbychair: line 1 is no line of a history: missing field")
+    assert run("check", str(tmp_path / "none")).returncode == 1
