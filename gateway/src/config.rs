@@ -438,6 +438,7 @@ impl Options {
         Ok(Some(front::Settings {
             cluster,
             etcd,
+            credentials: self.credentials.clone(),
             tls,
             files: IdentityFiles { certificate, key, authority },
             host: self.host.clone().unwrap_or_else(|| LOOPBACK.into()),
@@ -450,13 +451,12 @@ impl Options {
     }
 
     /// The options that a front has no use for, and whether they are given.
-    fn of_gateways(&self) -> [(&'static str, bool); 13] {
+    fn of_gateways(&self) -> [(&'static str, bool); 12] {
         [
             ("shards", self.shards.is_some()),
             ("journal", self.journal.is_some()),
             ("journal-size", self.journal_size.is_some()),
             ("memory", self.memory.is_some()),
-            ("credentials", self.credentials.is_some()),
             ("url", self.url.is_some()),
             ("allowed-hosts", self.allowed_hosts.is_some()),
             ("account", self.account.is_some()),

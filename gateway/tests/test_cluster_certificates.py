@@ -21,7 +21,7 @@ import pytest
 import started
 from certificates import Certificates, make
 from cluster_oracle import check
-from cluster_users import AWAY, LINK, STANDING, WELCOME, Users, about, frame, frames, greeting
+from cluster_users import AWAY, FRONT, LINK, PING, STANDING, WELCOME, Users, about, frame, frames, greeting
 from clusters import NAME, Cluster, Etcd, free_ports, has_etcd, run, wait
 from started import Started, boto3_client, gateway_program, program
 
@@ -216,6 +216,11 @@ def test_strangers_at_a_node_are_refused(served, certificates, others, of_anothe
         with logged(node.log, said):
             kind, why = asked(node.port, believed, name, first)
             assert kind == AWAY and said in why.decode()
+    # A front's is enough for a front, which is no client.
+    witness = frame(FRONT, about(cluster)) + frame(PING, bytes(8))
+    assert [asked(node.port, certificates.client(one), name, witness)[0] for one in ("front", "node1")] == [PING, PING]
+    with logged(node.log, f"its certificate is none of a front or a node of cluster {NAME}"):
+        assert asked(node.port, certificates.client("master"), name, witness)[0] in (AWAY, -1)
     # A node's certificate is enough for a client, and a link needs the one that is registered.
     assert asked(node.port, believed, name, greeting(cluster, 5000, 5000))[0] == STANDING
     assert asked(node.port, certificates.client("node2"), name, hello)[0] == WELCOME
@@ -282,7 +287,7 @@ def test_who_is_asked_by_a_front_shows_what_was_registered(served, certificates)
             wait(10, lambda: "listening on " in log.read_text(), "the front doesn't begin")
             url = next(line.split()[-1] for line in log.read_text().splitlines() if line.startswith("listening on "))
             with contextlib.suppress(OSError):
-                urllib.request.urlopen(url, timeout=1)
+                urllib.request.urlopen(url, b"Action=ListQueues", timeout=1)
             wait(10, lambda: "it shows another certificate than was registered" in log.read_text(), "not logged")
             assert heard == [], "it was told something"
         finally:

@@ -14,10 +14,16 @@ from http.server import BaseHTTPRequestHandler, ThreadingHTTPServer
 from pathlib import Path
 
 import pytest
+from botocore.auth import SigV4Auth
+from botocore.awsrequest import AWSRequest
+from botocore.credentials import Credentials
 
 import started
 from clusters import Etcd, has_etcd, run, wait
 from started import Started
+
+# What a gateway would answer, so that a front passes it on.
+BODY = b"Action=GetQueueAttributes"
 
 pytestmark = pytest.mark.skipif(not has_etcd(), reason="etcd isn't there: Debian's etcd-server has it")
 
@@ -104,7 +110,7 @@ class World:
         chain = {"line": 1, "members": members, "joiner": None, "is_ready": True, "full": members, "used": [1, 2]}
         self.etcd.write(f"{self.root}/master/chain", json.dumps(chain))
 
-    def ask(self, path: str = "/0/q", method: str = "POST", body: bytes = b"body", timeout: float = 30,
+    def ask(self, path: str = "/0/q", method: str = "POST", body: bytes = BODY, timeout: float = 30,
             **headers: str) -> tuple[int, http.client.HTTPMessage, bytes]:
         connection = http.client.HTTPConnection(self.front.url.removeprefix("http://"), timeout=timeout)
         try:
@@ -135,12 +141,12 @@ def world(etcd):
 
 
 def test_a_request_goes_to_the_gateway_of_the_head_as_it_is(world):
-    status, headers, body = world.ask("/0/q?A=%2f", Host="queues:80", X_Amz_Target="t", Connection="X-Private", X_Private="p",
+    status, headers, body = world.ask("/0/q?A=%2f", Host="queues:80", X_Amz_Date="d", Connection="X-Private", X_Private="p",
                                       X_Hobbychair_Until="5")
     assert (status, body) == (200, b"one")
     assert headers["X-Amzn-RequestId"] == "r" and headers["X-Hobbychair-Time"] is None and headers["Keep-Alive"] is None
     [(method, path, heard, sent)] = world.gateways[0].asked()
-    assert (method, path, sent, heard["host"], heard["x-amz-target"]) == ("POST", "/0/q?A=%2f", b"body", "queues:80", "t")
+    assert (method, path, sent, heard["host"], heard["x-amz-date"]) == ("POST", "/0/q?A=%2f", BODY, "queues:80", "d")
     assert "x-private" not in heard and len(heard["amz-sdk-invocation-id"]) == 36
     now = 1_000_000 + 1000 * (time.monotonic() - world.gateways[0].begun)
     assert now + 40_000 < int(heard["x-hobbychair-until"]) <= now + 45_000
@@ -181,14 +187,14 @@ def test_clients_speak_tls_to_a_front_that_has_a_certificate(etcd):
         port = int(world.front.url.rsplit(":", 1)[1])
         trusting = ssl.create_default_context(cafile=str(tls / "authority.pem"))
         connection = http.client.HTTPSConnection("localhost", port, timeout=30, context=trusting)
-        connection.request("POST", "/0/q", b"body")
+        connection.request("POST", "/0/q", BODY)
         assert connection.getresponse().read() == b"one"
         [(_, _, heard, _)] = world.gateways[0].asked()
         assert heard["x-forwarded-proto"] == "https" and heard["host"] == f"localhost:{port}"
         # Without TLS nobody is answered.
         with pytest.raises((OSError, http.client.HTTPException)):
             plain = http.client.HTTPConnection("127.0.0.1", port, timeout=15)
-            plain.request("POST", "/0/q", b"body")
+            plain.request("POST", "/0/q", BODY)
             plain.getresponse()
     finally:
         world.end()
@@ -196,8 +202,9 @@ def test_clients_speak_tls_to_a_front_that_has_a_certificate(etcd):
 
 def test_a_large_answer_comes_whole(world):
     world.gateways[0].repeated = 1_000_000
-    assert world.ask(body=b"x" * 1_000_000)[2] == b"one" * 1_000_000
-    assert len(world.gateways[0].asked()[0][3]) == 1_000_000
+    sent = b"Action=SendMessage&MessageBody=" + b"x" * 1_000_000
+    assert world.ask(body=sent)[2] == b"one" * 1_000_000
+    assert world.gateways[0].asked()[0][3] == sent
 
 
 def test_where_the_head_changes_a_request_is_asked_at_the_next_one(world):
@@ -248,13 +255,14 @@ def test_a_client_that_goes_leaves_nobody_asking(world):
 
 
 def test_where_nobody_acts_there_is_an_error_of_sqs(world):
-    world.register(2, None)
-    world.head(2)
+    world.register(3, None)
+    world.head(3)
     time.sleep(1)
     begun = time.monotonic()
     answers = {}
-    threads = [threading.Thread(target=lambda target=target: answers.update({target: world.ask("/", body=b"{}", **({"X_Amz_Target": target} if target else {}))}))
-               for target in ("", "AmazonSQS.ListQueues")]
+    asked = {"": (b"Action=ListQueues", {}), "AmazonSQS.ListQueues": (b"{}", {"X_Amz_Target": "AmazonSQS.ListQueues"})}
+    threads = [threading.Thread(target=lambda target=target, body=body, headers=headers: answers.update({target: world.ask("/", body=body, **headers)}))
+               for target, (body, headers) in asked.items()]
     for thread in threads:
         thread.start()
     for thread in threads:
@@ -265,6 +273,68 @@ def test_where_nobody_acts_there_is_an_error_of_sqs(world):
     assert json.loads(answers["AmazonSQS.ListQueues"][2])["__type"].endswith("#ServiceUnavailable")
 
 
+def test_what_no_gateway_would_perform_is_refused_by_the_front(world):
+    def refused(body: bytes, path: str = "/", **headers: str) -> tuple[int, str]:
+        status, told, said = world.ask(path, body=body, **headers)
+        if headers:
+            return status, told["X-Amzn-Query-Error"].split(";")[0]
+        return status, said.decode().split("<Code>")[1].split("</Code>")[0]
+
+    send = {"X_Amz_Target": "AmazonSQS.SendMessage"}
+    url = json.dumps({"QueueUrl": "http://queues/0/q"})[1:-1].encode()
+    assert refused(b"Action=Fly") == (400, "InvalidAction")
+    assert refused(b"Action=SendMessage", "/0/q") == (400, "MissingParameter")
+    assert refused(b"Action=ReceiveMessage&MaxNumberOfMessages=11", "/0/q") == (400, "InvalidParameterValue")
+    assert refused(b"{", **send) == (400, "SerializationException")
+    assert refused(b"{" + url + b', "MessageBody": "\\u0000"}', **send) == (400, "InvalidMessageContents")
+    assert refused(b"{" + url + b', "MessageBody": ""}', **send) == (400, "MissingParameter")
+    assert refused(b"{" + url + b', "MessageBody": "b", "DelaySeconds": 901}', **send) == (400, "InvalidParameterValue")
+    assert world.ask("/a/b/c/d/e")[0] == 404
+    assert world.gateways[0].heard == []
+    assert world.ask()[2] == b"one"
+
+
+class Signed:
+    """Requests of botocore, which sign themselves, for a front."""
+
+    def __init__(self, world: World, key: str, secret: str) -> None:
+        self.world, self.credentials = world, Credentials(key, secret)
+
+    def ask(self, body: bytes = BODY, sent: bytes | None = None, path: str = "/0/q") -> tuple[int, bytes]:
+        request = AWSRequest("POST", self.world.front.url + path, {"Content-Type": "application/x-www-form-urlencoded"}, body)
+        SigV4Auth(self.credentials, "sqs", "eu-north-1").add_auth(request)
+        headers = {name.replace("-", "_"): value for name, value in request.headers.items()}
+        status, _, said = self.world.ask(path, body=body if sent is None else sent, **headers)
+        return status, said
+
+
+def test_a_front_with_keys_lets_in_those_alone_who_sign_with_one(etcd, tmp_path, capfd):
+    file = tmp_path / "keys.toml"
+    file.write_text('[[key]]\naccess_key = "ONE"\nsecret = "the first secret"\n')
+    world = World(etcd, "--credentials", str(file))
+    try:
+        one, two = Signed(world, "ONE", "the first secret"), Signed(world, "TWO", "the second secret")
+        assert one.ask() == (200, b"one")
+        [(_, _, heard, sent)] = world.gateways[0].asked()
+        assert heard["authorization"].startswith("AWS4-HMAC-SHA256 Credential=ONE/") and sent == BODY
+        refused = [world.ask()[::2], two.ask(), Signed(world, "ONE", "another").ask(), one.ask(sent=b"Action=DeleteQueue")]
+        codes = ["MissingAuthenticationToken", "InvalidClientTokenId", "SignatureDoesNotMatch", "SignatureDoesNotMatch"]
+        assert [(status, code.encode() in said) for (status, said), code in zip(refused, codes)] == [(403, True)] * 4
+        # Who isn't let in isn't told of forms.
+        assert b"MissingAuthenticationToken" in world.ask(body=b"Action=Fly")[2]
+        assert len(world.gateways[0].asked()) == 1
+        file.write_text('[[key]]\naccess_key = "TWO"\nsecret = "the second secret"\n')
+        world.front.process.send_signal(signal.SIGHUP)
+        wait(10, lambda: two.ask() == (200, b"one"), "the keys weren't read again")
+        assert one.ask()[0] == 403
+        file.write_text("[[key]]\n")
+        world.front.process.send_signal(signal.SIGHUP)
+        wait(10, lambda: "the keys stay as they were" in capfd.readouterr().err, "nothing is said of keys that can't be read")
+        assert two.ask() == (200, b"one")
+    finally:
+        world.end()
+
+
 def test_what_a_front_cannot_be_told(etcd):
     which = ["--cluster", "told", "--etcd", etcd.urls[0]]
     refused = started.run("serve", *which, "--port", "0")
@@ -273,6 +343,7 @@ def test_what_a_front_cannot_be_told(etcd):
     for words, status, why in [
         (["--host", "0.0.0.0"], 2, "without --credentials only this machine is served"),
         (["--journal", "j"], 2, "journal is nothing that a front is told"),
+        (["--credentials", "/nowhere"], 1, "/nowhere"),
         (["--port", etcd.urls[0].rsplit(":", 1)[1]], 1, "can't listen on"),
     ]:
         refused = started.run("serve", *which, *words)

@@ -3,6 +3,7 @@
 mod headers;
 mod operators;
 mod passing;
+mod testing;
 mod times;
 
 use std::io;
@@ -40,6 +41,7 @@ use crate::tls::{Certificate, LONGEST_HANDSHAKE};
 use self::headers::{Asked, Came};
 use self::operators::{Figures, Operators};
 use self::passing::Passing;
+use self::testing::Testing;
 
 /// A request is whole so long after its first byte.
 const LONGEST_REQUEST: Duration = Duration::from_secs(30);
@@ -58,6 +60,8 @@ pub struct Settings {
     pub etcd: Vec<String>,
     /// Its certificate, where the cluster has some.
     pub files: IdentityFiles,
+    /// The file of keys with which requests have to be signed; none where the gateway that acts alone asks for them.
+    pub credentials: Option<PathBuf>,
     /// A chain of certificates that clients are shown, and its key, where they speak TLS.
     pub tls: Option<(PathBuf, PathBuf)>,
     pub host: String,
@@ -78,11 +82,12 @@ pub async fn serve(settings: Settings) -> Result<()> {
         Some((certificate, key)) => Some(Arc::new(Certificate::read(certificate, key)?)),
         None => None,
     };
-    tokio::spawn(read_again(signal(SignalKind::hangup())?, certificate.clone()));
+    let testing = Testing::new(settings.credentials.as_deref())?;
+    tokio::spawn(read_again(signal(SignalKind::hangup())?, testing.clone(), certificate.clone()));
     let (host, port) = (&settings.host, settings.port);
     let listener = listen(host, port).with_context(|| format!("can't listen on {host}:{port}"))?;
     let local = listener.local_addr()?;
-    if !settings.open && !is_of_this_machine(local.ip()) {
+    if !settings.open && !testing.asks_for_keys() && !is_of_this_machine(local.ip()) {
         let why = "without --credentials only this machine is served, by an address of 127.0.0.0/8 or by ::1. \
                    To serve everybody who can reach the gateway, say --open";
         return Err(Misuse(format!("{host}: {why}")).into());
@@ -99,7 +104,8 @@ pub async fn serve(settings: Settings) -> Result<()> {
     }
     let passing = Passing::new(follower, identity, figures.clone());
     let scheme = if certificate.is_some() { "https" } else { "http" };
-    let front = Arc::new(Front { passing, figures, budget: Budget::new(settings.request_memory), certificate });
+    let budget = Budget::new(settings.request_memory);
+    let front = Arc::new(Front { testing, passing, figures, budget, certificate });
     let (end, ending) = End::new();
     let mut served = tokio::spawn(front.serve(listener, places.served, ending));
     notify_supervisor(sd_notify::NotifyState::Ready);
@@ -118,17 +124,21 @@ pub async fn serve(settings: Settings) -> Result<()> {
     Ok(())
 }
 
-/// At each signal the certificate that clients are shown is read again. Where it can't be, it stays as it was.
-async fn read_again(mut hangups: Signal, certificate: Option<Arc<Certificate>>) {
+/// At each signal the keys and the certificate that clients are shown are read again. What can't be read stays as it was.
+async fn read_again(mut hangups: Signal, testing: Testing, certificate: Option<Arc<Certificate>>) {
     while hangups.recv().await.is_some() {
-        let Some(certificate) = certificate.clone() else { continue };
-        let read = tokio::task::spawn_blocking(move || certificate.read_again());
-        log_read_again("certificate", read.await.ok());
+        let (testing, certificate) = (testing.clone(), certificate.clone());
+        // A file may be a pipe that nobody writes to.
+        tokio::task::spawn_blocking(move || {
+            log_read_again("keys", testing.read_again());
+            log_read_again("certificate", certificate.as_deref().map(Certificate::read_again));
+        });
     }
 }
 
 /// What all connections share.
 struct Front {
+    testing: Testing,
     passing: Passing,
     figures: Arc<Figures>,
     budget: Budget,
@@ -242,6 +252,9 @@ impl Visit {
             Err(error) => return refused(protocol, &error, Uuid::new_v4(), true),
         };
         self.progress.is_read();
+        if let Err(unread) = self.front.testing.test(&head, &body) {
+            return unread.response(protocol, Uuid::new_v4());
+        }
         let passed = match Asked::of(head, body, self.came) {
             Some(asked) => self.front.passing.pass(&asked, arrived, &self.share).await,
             None => Err(SqsError::InvalidParameterValue("A front can't pass this request on.".into())),

@@ -6,6 +6,7 @@ pub mod bodies;
 mod connections;
 mod framing;
 mod places;
+mod reading;
 mod visitor;
 mod watched;
 
@@ -20,7 +21,7 @@ use hyper::{Body, Request, Response, StatusCode};
 use tokio::time::Instant;
 use uuid::Uuid;
 
-use crate::access::{Identity, Keys, Signable};
+use crate::access::{Identity, Keys};
 use crate::actions::{Actions, Caller};
 use crate::budget::{Budget, Share};
 use crate::clock::Moment;
@@ -31,12 +32,13 @@ use crate::repeats::{is_repeat, CallFields, CallResult, IdempotencyKey, Lookup, 
 use crate::store::wanted_until;
 use crate::texts::QueueName;
 use crate::wire::requests::Action;
-use crate::wire::{self, Incoming, Protocol, Reply};
+use crate::wire::{self, Protocol, Reply};
 
 pub use address::{is_of_this_machine, Addresses};
 pub use answers::to_be_written;
 pub use connections::{listen, Door};
 pub use places::Places;
+pub use reading::{incoming, signable, Unread};
 pub use visitor::Hosts;
 use visitor::KnownHost;
 pub use watched::{Progress, Watched};
@@ -168,14 +170,7 @@ impl Service {
             self.hosts.test_again(&head.uri, &head.headers, host)?;
             return Ok(None);
         };
-        let signable = Signable {
-            method: head.method.as_str(),
-            path: head.uri.path(),
-            query: head.uri.query().unwrap_or_default(),
-            headers: &head.headers,
-            body,
-        };
-        keys.verify(&signable, service.name(), SystemTime::now()).map(Some)
+        keys.verify(&signable(head, body), service.name(), SystemTime::now()).map(Some)
     }
 }
 
@@ -195,14 +190,7 @@ impl Connection {
             Ok(bytes) => self.clone().read(protocol, &head, &bytes, &mut log),
             Err(error) => Err(Unread::Refused { error, closes: true }),
         };
-        let next = read.unwrap_or_else(|unread| {
-            let response = match unread {
-                Unread::LongHead => too_long_a_head(),
-                Unread::NotFound => not_found(),
-                Unread::Refused { error, closes } => refused(protocol, &error, log.request_id, closes),
-            };
-            Next::Answered(Box::new(response))
-        });
+        let next = read.unwrap_or_else(|unread| Next::Answered(Box::new(unread.response(protocol, log.request_id))));
         Admitted { connection: self, log, next }
     }
 
@@ -214,13 +202,7 @@ impl Connection {
         body: &Bytes,
         log: &mut AccessLog,
     ) -> Result<Next, Unread> {
-        let path_queue = address::queue_of_path(head.uri.path()).map_err(|_| Unread::NotFound)?;
-        let incoming = Incoming {
-            target: text_of(&head.headers, &TARGET),
-            path_queue,
-            query: head.uri.query().unwrap_or_default(),
-            body,
-        };
+        let incoming = incoming(head, body)?;
         let service = &self.service;
         let identity = service.identify(head, body, incoming.service(), &self.host)?;
         log.identity = identity.clone();
@@ -303,23 +285,6 @@ impl Admitted {
         self.connection.service.tell_time(&mut response);
         self.connection.log(&self.log, response.status());
         response
-    }
-}
-
-/// Why a request isn't performed.
-enum Unread {
-    LongHead,
-    NotFound,
-    /// `closes`: the connection ends behind the refusal, since not all of the request was read.
-    Refused {
-        error: SqsError,
-        closes: bool,
-    },
-}
-
-impl From<SqsError> for Unread {
-    fn from(error: SqsError) -> Unread {
-        Unread::Refused { error, closes: false }
     }
 }
 
@@ -441,18 +406,5 @@ pub fn refused(protocol: Protocol, error: &SqsError, request_id: Uuid, closes: b
     if closes {
         response.headers_mut().insert(CONNECTION, HeaderValue::from_static("close"));
     }
-    response
-}
-
-fn too_long_a_head() -> Response<Bytes> {
-    let mut response = Response::new(Bytes::from_static(b"The head of a request has at most 32 KiB.\n"));
-    *response.status_mut() = StatusCode::REQUEST_HEADER_FIELDS_TOO_LARGE;
-    response.headers_mut().insert(CONNECTION, HeaderValue::from_static("close"));
-    response
-}
-
-fn not_found() -> Response<Bytes> {
-    let mut response = Response::new(Bytes::from_static(b"There is nothing at this path.\n"));
-    *response.status_mut() = StatusCode::NOT_FOUND;
     response
 }

@@ -1,0 +1,74 @@
+//! What of an HTTP request says what is asked, and why it may not be read.
+
+use bytes::Bytes;
+use hyper::header::{HeaderValue, CONNECTION};
+use hyper::http::request::Parts;
+use hyper::{Response, StatusCode};
+use uuid::Uuid;
+
+use super::{address, refused, text_of, TARGET};
+use crate::access::Signable;
+use crate::errors::SqsError;
+use crate::wire::{Incoming, Protocol};
+
+/// Why a request isn't performed.
+pub enum Unread {
+    LongHead,
+    NotFound,
+    /// `closes`: the connection ends behind the refusal, since not all of the request was read.
+    Refused {
+        error: SqsError,
+        closes: bool,
+    },
+}
+
+impl From<SqsError> for Unread {
+    fn from(error: SqsError) -> Unread {
+        Unread::Refused { error, closes: false }
+    }
+}
+
+impl Unread {
+    /// What the client is told.
+    pub fn response(&self, protocol: Protocol, request_id: Uuid) -> Response<Bytes> {
+        match self {
+            Unread::LongHead => too_long_a_head(),
+            Unread::NotFound => not_found(),
+            Unread::Refused { error, closes } => refused(protocol, error, request_id, *closes),
+        }
+    }
+}
+
+/// What says what is asked. There is nothing at a path that is no queue's and not `/`.
+pub fn incoming<'a>(head: &'a Parts, body: &'a [u8]) -> Result<Incoming<'a>, Unread> {
+    Ok(Incoming {
+        target: text_of(&head.headers, &TARGET),
+        path_queue: address::queue_of_path(head.uri.path()).map_err(|_| Unread::NotFound)?,
+        query: head.uri.query().unwrap_or_default(),
+        body,
+    })
+}
+
+/// What of it a client may have signed.
+pub fn signable<'a>(head: &'a Parts, body: &'a [u8]) -> Signable<'a> {
+    Signable {
+        method: head.method.as_str(),
+        path: head.uri.path(),
+        query: head.uri.query().unwrap_or_default(),
+        headers: &head.headers,
+        body,
+    }
+}
+
+fn too_long_a_head() -> Response<Bytes> {
+    let mut response = Response::new(Bytes::from_static(b"The head of a request has at most 32 KiB.\n"));
+    *response.status_mut() = StatusCode::REQUEST_HEADER_FIELDS_TOO_LARGE;
+    response.headers_mut().insert(CONNECTION, HeaderValue::from_static("close"));
+    response
+}
+
+fn not_found() -> Response<Bytes> {
+    let mut response = Response::new(Bytes::from_static(b"There is nothing at this path.\n"));
+    *response.status_mut() = StatusCode::NOT_FOUND;
+    response
+}
