@@ -69,14 +69,17 @@ fn uncounted(last_record: Moment, start: Moment) -> Option<u64> {
     passed.checked_sub(COUNTED).filter(|uncounted| *uncounted > 0 && last_record > 0)
 }
 
-/// The clock may be more than a day ahead of the last record: of that time a day counts. A book says so, so that it is the
-/// same at later starts. Where there is no room for that, it says so as soon as there is.
-pub async fn tell_jump(store: &Store, last_record: Moment) {
-    let now = store.clock().now();
-    let Some(uncounted) = uncounted(last_record, now) else { return };
+/// A start at the moment `begun` may be more than a day behind the last record: of that time a day counts. A book says so, so
+/// that it is the same at later starts. Where there is no room for that, it says so as soon as there is.
+pub async fn tell_jump(store: &Store, last_record: Moment, begun: Moment) {
+    let Some(uncounted) = uncounted(last_record, begun) else { return };
+    if store.queues().jumps().all().iter().any(|(moment, _)| *moment == begun) {
+        // Another gateway beside the same node has said so.
+        return;
+    }
     tracing::warn!("the clock is far ahead of the last record: {uncounted} ms of it make no message older");
-    store.queues().jumps().add(now, uncounted);
-    let said = store.perform_nameless(0, vec![Operation::Say(Entry::Jump(now, uncounted))]).await;
+    store.queues().jumps().add(begun, uncounted);
+    let said = store.perform_nameless(0, vec![Operation::Say(Entry::Jump(begun, uncounted))]).await;
     if let Err(error) = said {
         tracing::warn!("it is said later that the clock was far ahead: {error}");
         store.queues().books().program_is_unsaid(0);

@@ -347,17 +347,21 @@ async fn begin(settings: &Settings, health: &Health) -> Result<RunningStore> {
         None => begin_without_journal(settings)?,
     };
     let memory = settings.memory;
+    // A chain's time goes on where nobody asks for anything.
+    let paused = match &node {
+        Some(node) => node.paused,
+        None => Some((last, clock.now())),
+    };
     let (store, ends) = store::start(Start { program, patience, shards, cqs, node, queues, clock, kept, memory });
-    finish_all(&store, last).await;
+    finish_all(&store, paused).await;
     Ok(RunningStore { store, ends, _lock })
 }
 
-/// Brings to its end what was cut off, before anybody is served.
-async fn finish_all(store: &Store, last: Moment) {
+/// Brings to its end what was cut off, before anybody is served. `paused`: between which moments nobody was.
+async fn finish_all(store: &Store, paused: Option<(Moment, Moment)>) {
     book::prepare(store).await;
-    // A chain's time goes on where nobody asks for anything.
-    if !store.is_of_chain() {
-        retention::tell_jump(store, last).await;
+    if let Some((last, begun)) = paused {
+        retention::tell_jump(store, last, begun).await;
     }
     store.queues().parts().settle_all();
     moves::finish(store).await;

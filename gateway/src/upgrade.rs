@@ -139,7 +139,7 @@ impl Upgrade<'_> {
 /// this moment.
 async fn finish(store: &Store, latest: Moment) -> Result<()> {
     book::begin_all(store).await?;
-    retention::tell_jump(store, latest).await;
+    retention::tell_jump(store, latest, store.clock().now()).await;
     store.queues().parts().settle_all();
     moves::finish(store).await;
     purges::finish(store).await;

@@ -109,6 +109,20 @@ class Etcd:
     def write(self, key: str, value: str) -> None:
         self.ask("/v3/kv/put", {"key": _digits(key), "value": _digits(value)})
 
+    def leader(self) -> int | None:
+        """The place of the leader, as far as a member knows it."""
+        members = {}
+        for place, url in enumerate(self.urls):
+            try:
+                request = urllib.request.Request(url + "/v3/maintenance/status", b"{}", {"Content-Type": "application/json"})
+                with urllib.request.urlopen(request, timeout=0.7, context=self.context) as answer:
+                    told = json.load(answer)
+            except OSError:
+                continue
+            members[told["header"]["member_id"]] = place
+            leader = told.get("leader")
+        return members.get(leader) if members else None
+
     def signal(self, number: int, places: list[int] | None = None) -> None:
         for place, process in enumerate(self.processes):
             if places is None or place in places:
@@ -186,15 +200,58 @@ class Proxy:
         self.cut()
 
 
+class Proxies:
+    """Stand between one node and all members of etcd."""
+
+    def __init__(self, urls: list[str]) -> None:
+        self.all = [Proxy(url) for url in urls]
+        self.urls = [one.url for one in self.all]
+
+    def cut(self) -> None:
+        for one in self.all:
+            one.cut()
+
+    def mend(self) -> None:
+        for one in self.all:
+            one.mend()
+
+    def end(self) -> None:
+        for one in self.all:
+            one.end()
+
+
+# What has a process believe in another wall clock (Debian's faketime).
+FAKETIME = Path("/usr/lib/x86_64-linux-gnu/faketime/libfaketime.so.1")
+
+
+class WallClock:
+    """The wall clock of a node and its gateway, which a test can step."""
+
+    def __init__(self, file: Path) -> None:
+        self.file = file
+        self.step("+0")
+
+    def step(self, by: str) -> None:
+        """By so many seconds from the machine's, as `+3600`."""
+        new = self.file.with_suffix(".new")
+        new.write_text(f"{by}\n")
+        new.replace(self.file)
+
+    def environment(self) -> dict[str, str]:
+        return {"LD_PRELOAD": str(FAKETIME), "FAKETIME_TIMESTAMP_FILE": str(self.file), "FAKETIME_NO_CACHE": "1",
+                "FAKETIME_DONT_FAKE_MONOTONIC": "1", "DONT_FAKE_MONOTONIC": "1"}
+
+
 class Node:
     """A process of a node."""
 
-    def __init__(self, process: subprocess.Popen, log: Path, trace: Path, proxy: Proxy | None) -> None:
+    def __init__(self, process: subprocess.Popen, log: Path, trace: Path, proxy: Proxies | None) -> None:
         self.process, self.log, self.trace, self.proxy = process, log, trace, proxy
         self.server = 0
         self.port = 0
         self.gateway_port = 0
         self.may_fail = False
+        self.clock: WallClock | None = None
 
     def look(self) -> bool:
         """Whether it has said who it is."""
@@ -246,13 +303,14 @@ class Cluster:
 
     def __init__(self, room: Path, size: int = 3, members: int = 1, masters: int = 2, absent: tuple[int, ...] = (),
                  programs: Callable[[str], str] = lambda name: program(), breakable: bool = False,
-                 gateways: bool = False, certificates: Certificates | None = None,
+                 gateways: bool = False, certificates: Certificates | None = None, clocks: bool = False,
                  words: Callable[[int], list[str]] = lambda number: []) -> None:
-        """`words` are those that the node that is started as that one gets, beside the usual ones."""
+        """`words` are those that the node that is started as that one gets, beside the usual ones. With `clocks` the wall clocks of
+        nodes can be stepped."""
         self.between: list[Proxy] = []
         self.words = words
         self.room, self.size, self.programs, self.gateways = room, size, programs, gateways
-        self.certificates = certificates
+        self.certificates, self.clocks = certificates, clocks
         self.etcd = Etcd(room, members, certificates)
         made = run("cluster", "create", *self.which("master"), "--nodes", str(size))
         assert made.returncode == 0, made.stderr
@@ -287,17 +345,17 @@ class Cluster:
         context = self.certificates.client(self.certificates.has(role, name))
         return {"ssl": context, "server_hostname": self.certificates.name_of("node")}
 
-    def _start(self, name: str, *words: str) -> tuple[subprocess.Popen, Path]:
+    def _start(self, name: str, *words: str, clock: WallClock | None = None) -> tuple[subprocess.Popen, Path]:
         log = self.room / f"{name}.log"
-        environment = {**os.environ, "HOBBYCHAIR_CQ": self.programs(name)}
+        environment = {**os.environ, "HOBBYCHAIR_CQ": self.programs(name), **(clock.environment() if clock else {})}
         with open(log, "ab") as out:
             return subprocess.Popen([gateway_program(), *words], env=environment, stdin=subprocess.DEVNULL, stdout=out,
                                     stderr=out), log
 
     def start_node(self, first: int | None = None) -> Node:
         name = f"node{len(self.nodes) + 1}"
-        proxy = Proxy(self.etcd.urls[0]) if len(self.etcd.urls) == 1 else None
-        urls = proxy.url if proxy else ",".join(self.etcd.urls)
+        proxy = Proxies(self.etcd.urls)
+        urls = ",".join(proxy.urls)
         trace = self.room / f"{name}.trace"
         how = ["--first", str(first)] if first else ["--join"]
         [port] = free_ports(1)
@@ -305,8 +363,10 @@ class Cluster:
             how += ["--gateway", f"127.0.0.1:{port}"]
         how += self.words(len(self.nodes) + 1)
         which = [urls if word == ",".join(self.etcd.urls) else word for word in self.which("node", name)]
-        process, log = self._start(name, "node", *which, "--listen", "127.0.0.1:0", "--trace", str(trace), *how)
+        clock = WallClock(self.room / f"{name}.clock") if self.clocks else None
+        process, log = self._start(name, "node", *which, "--listen", "127.0.0.1:0", "--trace", str(trace), *how, clock=clock)
         node = Node(process, log, trace, proxy)
+        node.clock = clock
         node.gateway_port = port
         self.nodes.append(node)
         return node

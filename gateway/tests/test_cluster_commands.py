@@ -84,7 +84,7 @@ def test_the_status_of_a_cluster(tmp_path):
         assert [server["hears"] for server in status["servers"]] == [[2, 3], [1, 3], [1, 2]]
         assert all(server["is_full"] for server in status["servers"]) and status["waits"] is None
         rows = run(*words).stdout.splitlines()
-        assert rows[1].split() == ["server", "address", "role", "count", "lag", "beats", "hears", "full", "acts", "memory", "gateway"]
+        assert rows[1].split() == ["server", "address", "role", "count", "lag", "beats", "hears", "full", "acts", "fronts", "memory", "journal", "gateway"]
         assert rows[2].split()[0:3:2] == ["1", "head"]
         [server, *_] = status["servers"]
         assert 1 << 20 < server["memory_bytes"] < 1 << 30 < server["memory_bound_bytes"]
@@ -114,7 +114,7 @@ def test_a_whole_cluster_goes_up_serves_and_goes_down(tmp_path):
     started.send_signal(signal.SIGINT)
     assert started.wait(10) == 0
     wait(5, lambda: not any(Path(f"/proc/{child}").exists() for child in children), "processes are left")
-    assert (folder / "etcd").is_dir()
+    assert (folder / "etcd").is_dir() and len(list((folder / "journals").iterdir())) == 2
     assert "was used before, and is left as it is" in refused("cluster", "up", "--folder", str(folder))
     assert (folder / "etcd").is_dir()
 

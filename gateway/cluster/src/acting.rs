@@ -12,6 +12,8 @@ use tokio::time::{sleep, timeout};
 use crate::etcd::Operation;
 use crate::identity::{Fingerprint, Identity};
 use crate::records::{self, Chain, Cluster, Registration};
+use crate::wire::About;
+use crate::witness::Witness;
 
 /// So often etcd is looked at where nothing calls for it.
 const ROUND: Duration = Duration::from_millis(500);
@@ -37,7 +39,8 @@ pub struct Follower {
 }
 
 impl Follower {
-    /// Finds the cluster, and follows it from then on. An error says why it isn't found.
+    /// Finds the cluster, and follows it from then on. All its servers are told, by pings, that somebody is in contact with them. An
+    /// error says why it isn't found.
     pub async fn begin(name: &str, urls: &[String], identity: Option<Arc<Identity>>) -> Result<Follower> {
         let cluster = Cluster::find(name, urls, identity).await?.for_long();
         let (sender, acting) = watch::channel(None);
@@ -78,9 +81,12 @@ impl Follower {
 async fn follow(cluster: Cluster, acting: watch::Sender<Option<Acting>>, look: Arc<Notify>) {
     let mut known = BTreeMap::new();
     let mut in_contact = true;
+    let about = About { cluster: cluster.name.clone(), incarnation: cluster.settings.incarnation.clone() };
+    let mut witness = Witness::new(about, cluster.identity.clone());
     loop {
         match read(&cluster, &mut known).await {
             Ok(found) => {
+                witness.ping(&known);
                 if !std::mem::replace(&mut in_contact, true) {
                     tracing::info!("in contact with etcd again");
                 }
@@ -109,13 +115,16 @@ fn tell_of(found: Option<Acting>) {
     }
 }
 
-/// Who acts. Registrations that were read once stay as they are.
+/// Who acts. Registrations of the chain's servers that were read once stay as they are.
 async fn read(cluster: &Cluster, known: &mut BTreeMap<u32, Registration>) -> Result<Option<Acting>> {
     let chain: Chain = get(cluster, cluster.keys.chain()).await?.context("the cluster has no chain")?;
     let head = *chain.members.first().context("the chain has no members")?;
-    if let Entry::Vacant(place) = known.entry(head) {
-        if let Some(registration) = get(cluster, cluster.keys.node(head)).await? {
-            place.insert(registration);
+    known.retain(|server, _| chain.has_place(*server));
+    for server in chain.servers() {
+        if let Entry::Vacant(place) = known.entry(server) {
+            if let Some(registration) = get(cluster, cluster.keys.node(server)).await? {
+                place.insert(registration);
+            }
         }
     }
     let Some(registration) = known.get(&head) else { return Ok(None) };

@@ -40,6 +40,12 @@ impl Clock {
         }
     }
 
+    /// Time begins: with the wall clock, or with the last entry's moment if that is later.
+    pub fn go_on_from(&mut self, last: u64, wall: u64, since_start: u64) {
+        self.last = self.last.max(last);
+        self.set(last.max(wall), since_start);
+    }
+
     /// The predecessor says that it is this time.
     pub fn follow(&mut self, time: u64, since_start: u64) {
         if self.is_behind(time, since_start) {
@@ -131,6 +137,17 @@ mod tests {
         assert_eq!(clock.now(2_000), WALL + 1_000 + 10);
         clock.lead(WALL - HOUR, 3_000);
         assert_eq!(clock.now(3_000), WALL + 2_000);
+    }
+
+    #[test]
+    fn after_a_pause_time_begins_with_the_wall_clock_or_the_last_entry() {
+        let mut clock = Clock::default();
+        clock.go_on_from(WALL - HOUR, WALL, 1_000);
+        assert_eq!(clock.now(1_500), WALL + 500);
+        let mut clock = Clock::default();
+        clock.go_on_from(WALL + HOUR, WALL, 1_000);
+        clock.lead(WALL, 1_000);
+        assert_eq!(clock.now(1_500), WALL + HOUR + 500);
     }
 
     #[test]

@@ -7,11 +7,12 @@ use anyhow::{bail, Result};
 use clap::{ArgGroup, Args, Subcommand};
 
 use crate::addresses::Place;
-use crate::certificates::{self, Wanted};
+use crate::certificates;
 use crate::identity::{IdentityFiles, Role};
 use crate::memory::{usual_bound, Size};
-use crate::node::{self, gateway, Beginning, End, Limits};
+use crate::node::{self, gateway, keeping, Beginning, End, Limits};
 use crate::records::Cluster;
+use crate::recover::{self, Wanted};
 use crate::roster::MOST_MEMBERS;
 use crate::{master, say, status, up};
 
@@ -67,6 +68,15 @@ pub struct Node {
     /// What may wait here for a server that joins
     #[arg(long, value_name = "SIZE", default_value = "256MiB")]
     joiner_memory: Size,
+    /// Keep a journal of all entries in a folder of its own in this one [default: nothing is kept on disk]
+    #[arg(long, value_name = "FOLDER")]
+    journal: Option<PathBuf>,
+    /// Let nothing leave before what it rests on is on the disk
+    #[arg(long, requires = "journal")]
+    durable: bool,
+    /// How large what is behind the journal's last copy of the store gets before the next copy, or as large as that is
+    #[arg(long, value_name = "SIZE", default_value = "256MiB", requires = "journal")]
+    journal_size: Size,
     /// The program cq [default: cq of the path]
     #[arg(long, value_name = "PROGRAM", env = "HOBBYCHAIR_CQ")]
     pub cq: Option<String>,
@@ -107,8 +117,31 @@ pub enum OfCluster {
         #[command(flatten)]
         which: Which,
     },
+    /// Make a new cluster of the journals of one whose servers are all gone
+    Recover {
+        #[command(flatten)]
+        which: Which,
+        /// Where journals are: a node's --journal, or a folder in it. All of the last chain are needed
+        #[arg(long, value_name = "FOLDER", required = true)]
+        from: Vec<PathBuf>,
+        /// Where to write the journal of the new cluster's first server: the --journal of the node that begins as that
+        #[arg(long, value_name = "FOLDER")]
+        journal: PathBuf,
+        /// Which incarnation to recover, where etcd doesn't know the cluster [default: the newest one]
+        #[arg(long, value_name = "INCARNATION")]
+        incarnation: Option<String>,
+        /// Do it though something may be lost
+        #[arg(long)]
+        force: bool,
+        /// Say what would be taken, and change nothing
+        #[arg(long)]
+        dry_run: bool,
+        /// The program cq [default: cq of the path]
+        #[arg(long, value_name = "PROGRAM", env = "HOBBYCHAIR_CQ")]
+        cq: Option<String>,
+    },
     /// Make an authority, and with --role certificates that it has signed, by the program openssl
-    Certificates(Wanted),
+    Certificates(certificates::Wanted),
     /// Start a whole cluster on this machine, to try it
     Up {
         /// How many nodes
@@ -133,7 +166,7 @@ impl OfCluster {
     /// Which program cq was given, where one is needed.
     pub fn cq(&self) -> Option<Option<String>> {
         match self {
-            OfCluster::Up { cq, .. } => Some(cq.clone()),
+            OfCluster::Up { cq, .. } | OfCluster::Recover { cq, .. } => Some(cq.clone()),
             _ => None,
         }
     }
@@ -152,7 +185,9 @@ pub fn run_node(node: Node, program: String) -> Result<()> {
     let place = Place { listen: node.listen, advertise: node.advertise };
     let memory = node.memory.unwrap_or_else(usual_bound);
     let limits = Limits { memory: memory.0, joiner: node.joiner_memory.0 };
-    let settings = node::Settings { place, beginning, program, gateway, limits, trace: node.trace };
+    let (is_durable, size) = (node.durable, node.journal_size.0);
+    let journal = node.journal.map(|folder| keeping::Settings { folder, is_durable, size });
+    let settings = node::Settings { place, beginning, program, gateway, limits, journal, trace: node.trace };
     let runtime = runtime(2)?;
     let end = runtime.block_on(async { node::run(node.which.find(&[Role::Node]).await?, settings).await })?;
     runtime.shutdown_background();
@@ -187,6 +222,14 @@ pub fn run_cluster(asked: OfCluster, program: Option<String>) -> Result<()> {
             OfCluster::Log { which } => {
                 status::log(&which.find(&[]).await?).await?.iter().for_each(|line| say(line));
                 Ok(())
+            }
+            OfCluster::Recover { which, from, journal, incarnation, force, dry_run, .. } => {
+                let identity = which.files.identity(&which.cluster, &[])?;
+                let program = program.unwrap_or_else(|| "cq".into());
+                let (cluster, etcd) = (which.cluster, which.etcd);
+                let (is_forced, is_dry) = (force, dry_run);
+                let wanted = Wanted { cluster, etcd, identity, from, journal, incarnation, is_forced, is_dry, program };
+                recover::recover(&wanted).await
             }
             OfCluster::Certificates(wanted) => {
                 certificates::make(&wanted)?.iter().for_each(|line| say(line));

@@ -69,6 +69,8 @@ pub enum Command {
     Gone(u32),
     /// The next chunk of a copy of the server's store.
     Save,
+    /// The next chunk of the store with which the server begins, or an empty one behind the last.
+    Load(Bytes),
 }
 
 /// What a process tells.
@@ -122,6 +124,7 @@ impl Command {
             Command::More(to) => frame(5, |out| put_party(out, *to)),
             Command::Gone(server) => frame(6, |out| out.number32(*server)),
             Command::Save => frame(7, |_| {}),
+            Command::Load(chunk) => frame(8, |out| out.run(chunk)),
         }
     }
 }
@@ -255,6 +258,7 @@ mod tests {
         let more = Command::More(Party::Server(258)).frame();
         assert_eq!(more, [7, 0, 0, 0, 1, 5, 2, 2, 1, 0, 0]);
         assert_eq!(Command::Save.frame(), [2, 0, 0, 0, 1, 7]);
+        assert_eq!(Command::Load(Bytes::from_static(b"c")).frame(), [7, 0, 0, 0, 1, 8, 1, 0, 0, 0, b'c']);
         let request = Bytes::from_static(&[9]);
         let arrive = Command::Arrive { stream: 3, clock: 258, request }.frame();
         assert_eq!(arrive, [19, 0, 0, 0, 1, 0, 3, 0, 0, 0, 0, 0, 0, 0, 2, 1, 0, 0, 0, 0, 0, 0, 9]);

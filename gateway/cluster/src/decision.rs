@@ -87,7 +87,8 @@ impl View<'_> {
             return (Some(self.detection(server, vec![guard])), why);
         }
         let (cut_off, why_kept) = self.detect_cut_off();
-        (cut_off, why.or(why_kept))
+        let lost = cut_off.or_else(|| self.detect_unreached());
+        (lost, why.or(why_kept))
     }
 
     /// One end of a link that carries nothing, though both ends beat.
@@ -102,6 +103,13 @@ impl View<'_> {
             why = Some(format!("servers {first} and {second} don't hear each other, and {reason}"));
         }
         (None, why)
+    }
+
+    /// A head that no front reaches.
+    fn detect_unreached(&self) -> Option<Decision> {
+        let head = self.silence.unreached().filter(|head| self.why_kept(*head).is_none())?;
+        tracing::warn!(server = head, "no front reaches the head, and one reaches another server");
+        Some(self.detection(head, Vec::new()))
     }
 
     fn detection(&self, server: u32, guards: Vec<Guard>) -> Decision {
@@ -165,14 +173,16 @@ mod tests {
         condemned: BTreeSet<u32>,
         /// Who doesn't hear whom.
         deaf: Vec<(u32, u32)>,
+        /// Whom a front reaches.
+        reached: Vec<u32>,
     }
 
     impl Candidate {
         fn new(size: u32) -> Candidate {
             let roster = Roster::of_first_chain(size);
-            let (letters, condemned, deaf) = (Vec::new(), BTreeSet::new(), Vec::new());
+            let (letters, condemned, deaf, reached) = (Vec::new(), BTreeSet::new(), Vec::new(), Vec::new());
             let silence = Silence::default();
-            Candidate { roster, silence, now: Duration::ZERO, revision: 0, letters, condemned, deaf }
+            Candidate { roster, silence, now: Duration::ZERO, revision: 0, letters, condemned, deaf, reached }
         }
 
         /// So many looks, at each of which these servers have beaten; the others have beaten before.
@@ -185,7 +195,8 @@ mod tests {
                 let hears =
                     |server: u32| beat.iter().copied().filter(|other| !self.deaf.contains(&(server, *other))).collect();
                 let with_beat = |(server, revision)| {
-                    (server, revision, Beat { joins: joins == Some(server), hears: hears(server), ..Beat::default() })
+                    let (joins, fronts) = (joins == Some(server), self.reached.contains(&server).into());
+                    (server, revision, Beat { joins, hears: hears(server), fronts, ..Beat::default() })
                 };
                 self.silence.look(beats.map(with_beat).collect(), &self.roster, self.now);
             }
@@ -308,6 +319,24 @@ mod tests {
         candidate.deaf.clear();
         candidate.look(1, &[1, 2, 3], &[], None);
         assert_eq!(candidate.line(), None);
+    }
+
+    #[test]
+    fn a_head_that_no_front_reaches_is_given_up_unless_it_is_the_last_full_one() {
+        let mut candidate = Candidate::new(3);
+        candidate.reached = vec![3];
+        candidate.look(8, &[1, 2, 3], &[], None);
+        assert_eq!(candidate.line(), None);
+        candidate.look(1, &[1, 2, 3], &[], None);
+        assert_eq!(candidate.line(), Some(Line::Detect { server: 1 }));
+        candidate.reached = vec![1];
+        candidate.look(1, &[1, 2, 3], &[], None);
+        assert_eq!(candidate.line(), None);
+        let mut last = Candidate::new(1);
+        last.roster.members = vec![1, 2];
+        last.reached = vec![2];
+        last.look(12, &[1, 2], &[], None);
+        assert_eq!(last.line(), None);
     }
 
     #[test]

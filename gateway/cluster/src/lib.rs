@@ -2,7 +2,8 @@
 //!
 //! A node (`node`) runs one `cq server` (`child`, `commands`) and carries what it puts to the others by links (`link`,
 //! `wire`). A candidate for the master (`master`) appends lines (`decision`, of what `silence` and `roster` say) to a log
-//! in etcd (`etcd`, `records`); `cut` says which links carry nothing. The node of the head starts the gateway that acts
+//! in etcd (`etcd`, `records`); `cut` says which links carry nothing, and
+//! `unreached` whether fronts reach the head, of which each server hears by their pings (`witness`, `node/fronts`). The node of the head starts the gateway that acts
 //! (`node/gateway`, `pipe`), and fronts find it (`acting`). Who is at the other end of a connection (`transport`) is known by
 //! certificates (`identity`, `pem`), which `certificates` makes. `memory` says how much there is. Two rules are kept: no
 //! clock and no lease is part of what keeps data safe, and a server ends only because the log says so, by a fault of its own,
@@ -18,7 +19,9 @@ mod commands;
 mod cut;
 mod decision;
 mod etcd;
+pub mod framing;
 pub mod identity;
+mod journal;
 mod link;
 mod master;
 pub mod memory;
@@ -27,12 +30,15 @@ pub mod parts;
 pub mod pem;
 pub mod pipe;
 mod records;
+mod recover;
 mod roster;
 mod silence;
 mod status;
 pub mod transport;
+mod unreached;
 mod up;
 mod wire;
+mod witness;
 
 pub use child::end_with_this_process;
 

@@ -90,6 +90,10 @@ impl Reader {
         (0..count).map(|_| self.server()).collect()
     }
 
+    pub fn is_empty(&self) -> bool {
+        !self.0.has_remaining()
+    }
+
     /// Nothing is left.
     pub fn end(self) -> Result<(), Malformed> {
         if self.0.has_remaining() {

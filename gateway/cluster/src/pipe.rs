@@ -26,6 +26,9 @@ pub enum FromNode {
     Refused { stream: u64, code: u32, request: Option<RequestName> },
     /// Messages may use so many bytes at each server of the chain, by the gateway's count.
     Memory { bound: u64 },
+    /// The chain went on at the moment `begun` from a store that was recovered, whose last entry is of the moment `last`. It is
+    /// told ahead of the store.
+    Paused { last: u64, begun: u64 },
 }
 
 /// What a request is known by.
@@ -76,6 +79,10 @@ impl FromNode {
                 });
             }),
             FromNode::Memory { bound } => frame(6, |out| out.number64(*bound)),
+            FromNode::Paused { last, begun } => frame(7, |out| {
+                out.number64(*last);
+                out.number64(*begun);
+            }),
         }
     }
 
@@ -94,6 +101,7 @@ impl FromNode {
                 FromNode::Refused { stream, code, request: is_named.then(|| name(&mut from)).transpose()? }
             }
             6 => FromNode::Memory { bound: from.number64()? },
+            7 => FromNode::Paused { last: from.number64()?, begun: from.number64()? },
             _ => return Err(Malformed("its kind is none of what a node tells")),
         };
         from.end()?;
@@ -144,6 +152,7 @@ mod tests {
             FromNode::Acts,
             FromNode::Refused { stream: 3, code: 20, request: None },
             FromNode::Memory { bound: 1 << 30 },
+            FromNode::Paused { last: 5, begun: 9 },
             FromNode::Refused { stream: 3, code: 20, request: Some(RequestName { client: 4, number: 5 }) },
         ];
         let gateway = [

@@ -11,7 +11,7 @@ use crate::etcd::{behind, Entry, Etcd, Guard, Operation};
 use crate::identity::{Fingerprint, Identity};
 
 /// The version of all that is here.
-const VERSION: u32 = 1;
+pub const VERSION: u32 = 1;
 
 /// No name of a cluster is longer.
 const LONGEST_NAME: usize = 64;
@@ -27,6 +27,18 @@ pub struct Settings {
     /// Whether all of its processes have certificates.
     #[serde(default, skip_serializing_if = "is_false")]
     pub has_certificates: bool,
+    /// With what server 1 begins, where the cluster was recovered.
+    #[serde(default, skip_serializing_if = "Option::is_none")]
+    pub recovered: Option<Recovered>,
+}
+
+/// From where a cluster was recovered.
+#[derive(Clone, Debug, PartialEq, Eq, Serialize, Deserialize)]
+pub struct Recovered {
+    /// The incarnation before.
+    pub incarnation: String,
+    /// How many entries its store is made of.
+    pub count: u64,
 }
 
 /// Whether a field says nothing, so that it isn't written.
@@ -49,6 +61,13 @@ pub struct Chain {
 }
 
 impl Chain {
+    /// The first chain of a cluster, of so many servers.
+    pub fn first(servers: u32) -> Chain {
+        let members: Vec<u32> = (1..=servers).collect();
+        let (full, used) = (members.clone(), members.clone());
+        Chain { line: 0, members, joiner: None, is_ready: true, full, used }
+    }
+
     /// The members, and the one that joins.
     pub fn servers(&self) -> impl Iterator<Item = u32> + '_ {
         self.members.iter().copied().chain(self.joiner)
@@ -115,12 +134,18 @@ pub struct Beat {
     pub hears: Vec<u32>,
     /// So many clients are connected.
     pub clients: usize,
+    /// So many fronts are in contact.
+    #[serde(default, skip_serializing_if = "is_none_of_them")]
+    pub fronts: usize,
     /// So many bytes its server's process has in memory.
     #[serde(default)]
     pub memory: u64,
     /// How far the gateway beside it is, if it is the head and has one.
     #[serde(default, skip_serializing_if = "Option::is_none")]
     pub gateway: Option<GatewayPhase>,
+    /// Why the master is asked to do without it, if it is.
+    #[serde(default, skip_serializing_if = "Option::is_none")]
+    pub condemned: Option<String>,
 }
 
 /// How far the gateway is that a head's node has started.
@@ -148,6 +173,23 @@ pub struct Registration {
     /// Messages may use so many bytes there; 0 where it says nothing of that.
     #[serde(default, skip_serializing_if = "is_zero")]
     pub memory: u64,
+    /// How it keeps a journal, if it does.
+    #[serde(default, skip_serializing_if = "Option::is_none")]
+    pub journal: Option<JournalKind>,
+}
+
+/// When a journal is on the disk.
+#[derive(Clone, Copy, Debug, PartialEq, Eq, Serialize, Deserialize)]
+#[serde(rename_all = "snake_case")]
+pub enum JournalKind {
+    /// Some time after what rests on it has left.
+    Buffered,
+    /// Before.
+    Durable,
+}
+
+fn is_none_of_them(count: &usize) -> bool {
+    *count == 0
 }
 
 fn is_zero(number: &u64) -> bool {
@@ -291,11 +333,20 @@ impl Cluster {
     /// Finds the cluster, or says that there is none.
     pub async fn find(name: &str, urls: &[String], identity: Option<Arc<Identity>>) -> Result<Cluster> {
         let etcd = Etcd::new(urls, identity.clone())?;
+        let found = Cluster::find_any(name, etcd, identity).await?;
+        found.ok_or_else(|| anyhow!("there is no cluster {name}: hobbychair cluster create makes one"))
+    }
+
+    /// The key of the settings of the cluster of that name.
+    pub fn key(name: &str) -> String {
+        Keys::new(name, "").cluster
+    }
+
+    /// Finds the cluster, if there is one.
+    pub async fn find_any(name: &str, etcd: Etcd, identity: Option<Arc<Identity>>) -> Result<Option<Cluster>> {
         test_name(name)?;
-        let key = Keys::new(name, "").cluster;
-        let read = etcd.transact(&[], &[Operation::Get(key)], &[]).await?.read;
-        let found = read.first().and_then(|found| found.first());
-        let found = found.ok_or_else(|| anyhow!("there is no cluster {name}: hobbychair cluster create makes one"))?;
+        let read = etcd.transact(&[], &[Operation::Get(Cluster::key(name))], &[]).await?.read;
+        let Some(found) = read.first().and_then(|found| found.first()) else { return Ok(None) };
         let settings: Settings = value(found)?;
         if settings.version != VERSION {
             bail!("cluster {name} is of version {}, and this program of version {VERSION}", settings.version);
@@ -306,7 +357,7 @@ impl Cluster {
             _ => {}
         }
         let keys = Keys::new(name, &settings.incarnation);
-        Ok(Cluster { name: name.into(), etcd, settings, keys, identity })
+        Ok(Some(Cluster { name: name.into(), etcd, settings, keys, identity }))
     }
 
     /// Makes a cluster whose first chain has so many servers. Who has a certificate makes one whose processes all have some.
@@ -314,23 +365,34 @@ impl Cluster {
         let etcd = Etcd::new(urls, identity.clone())?;
         test_name(name)?;
         let has_certificates = identity.is_some();
-        let settings = Settings { version: VERSION, incarnation: random_name(), servers, has_certificates };
+        let settings =
+            Settings { version: VERSION, incarnation: random_name(), servers, has_certificates, recovered: None };
+        let guard = Guard::IsAbsent(Cluster::key(name));
+        match Cluster::put(name, etcd, settings, identity, guard).await? {
+            Some(cluster) => Ok(cluster),
+            None => bail!("there is a cluster {name} already"),
+        }
+    }
+
+    /// Makes a cluster with these settings, if the guard holds.
+    pub async fn put(
+        name: &str,
+        etcd: Etcd,
+        settings: Settings,
+        identity: Option<Arc<Identity>>,
+        guard: Guard,
+    ) -> Result<Option<Cluster>> {
         let keys = Keys::new(name, &settings.incarnation);
-        let members: Vec<u32> = (1..=servers).collect();
-        let full = members.clone();
-        let chain = Chain { line: 0, members: members.clone(), joiner: None, is_ready: true, full, used: members };
         let put = [
             Operation::Put(keys.cluster.clone(), text(&settings)),
-            Operation::Put(keys.next(), (servers + 1).to_string()),
-            Operation::Put(keys.chain(), text(&chain)),
+            Operation::Put(keys.next(), (settings.servers + 1).to_string()),
+            Operation::Put(keys.chain(), text(&Chain::first(settings.servers))),
         ];
-        let guard = Guard::IsAbsent(keys.cluster.clone());
         let outcome = etcd.transact(&[guard], &put, &[Operation::Get(keys.cluster.clone())]).await?;
+        // An earlier answer may have been lost on its way.
         let is_own = || outcome.read.iter().flatten().any(|found| found.value == text(&settings));
-        if !outcome.succeeded && !is_own() {
-            bail!("there is a cluster {name} already");
-        }
-        Ok(Cluster { name: name.into(), etcd, settings, keys, identity })
+        let is_there = outcome.succeeded || is_own();
+        Ok(is_there.then(|| Cluster { name: name.into(), etcd, settings, keys, identity }))
     }
 
     /// For who goes on for long: it tries again and again, and its log says where its certificate expires soon.
@@ -386,7 +448,8 @@ mod tests {
     #[test]
     fn a_node_without_a_gateway_says_nothing_of_one() {
         let address = "127.0.0.1:7001".parse().unwrap();
-        let without = Registration { nonce: "n".into(), address, gateway: None, certificate: None, memory: 0 };
+        let without =
+            Registration { nonce: "n".into(), address, gateway: None, certificate: None, memory: 0, journal: None };
         assert_eq!(text(&without), r#"{"nonce":"n","address":"127.0.0.1:7001"}"#);
         let certificate = Some(Fingerprint::of(&rustls::Certificate(vec![])));
         let with = Registration { gateway: Some(address), certificate, ..without.clone() };

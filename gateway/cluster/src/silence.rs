@@ -8,6 +8,7 @@ use std::time::Duration;
 use crate::cut::{Cut, Unheard};
 use crate::records::Beat;
 use crate::roster::Roster;
+use crate::unreached::Unreached;
 
 /// A server whose beat hasn't changed for so long of contact with etcd is silent.
 pub const SILENT: Duration = Duration::from_secs(2);
@@ -43,6 +44,7 @@ pub struct Silence {
     /// Servers that have never beaten: since when they are looked for, by the time of contact.
     missing: BTreeMap<u32, Duration>,
     unheard: Unheard,
+    unreached: Unreached,
 }
 
 impl Silence {
@@ -72,6 +74,9 @@ impl Silence {
         let mut unheard = std::mem::take(&mut self.unheard);
         unheard.look(roster, self.contact, |one, other| self.hears(one, other, roster, began));
         self.unheard = unheard;
+        let mut unreached = std::mem::take(&mut self.unreached);
+        unreached.look(roster, self.contact, |server| Some(self.beating(server, roster, began)?.beat.fronts));
+        self.unreached = unreached;
         if !was_any_fresh {
             // All were silent: who comes back first has no advantage.
             self.begin_anew();
@@ -83,12 +88,17 @@ impl Silence {
         self.seen.values_mut().for_each(|seen| seen.changed = contact);
         self.missing.values_mut().for_each(|since| *since = contact);
         self.unheard.begin_anew(contact);
+        self.unreached.begin_anew(contact);
+    }
+
+    /// What is known of a server that beats.
+    fn beating(&self, server: u32, roster: &Roster, now: Duration) -> Option<&Seen> {
+        self.seen.get(&server).filter(|seen| seen.fresh.is_some() && !self.is_silent(server, roster, now))
     }
 
     /// Whether a server hears another one, where both beat.
     fn hears(&self, server: u32, other: u32, roster: &Roster, now: Duration) -> Option<bool> {
-        let beats =
-            |one: u32| self.seen.get(&one).filter(|seen| seen.fresh.is_some() && !self.is_silent(one, roster, now));
+        let beats = |one| self.beating(one, roster, now);
         beats(server).zip(beats(other)).map(|(seen, _)| seen.beat.hears.contains(&other))
     }
 
@@ -96,6 +106,11 @@ impl Silence {
     pub fn cut_off(&self, roster: &Roster, now: Duration) -> Vec<(Cut, [u32; 2])> {
         let cuts = self.unheard.cuts(roster, self.contact);
         cuts.into_iter().map(|cut| (cut, cut.ends(roster, |one, other| self.hears(one, other, roster, now)))).collect()
+    }
+
+    /// The head, where no front has reached it for long, though one reaches a server that may take its place.
+    pub fn unreached(&self) -> Option<u32> {
+        self.unreached.for_long(self.contact)
     }
 
     pub fn is_fresh(&self, server: u32, now: Duration) -> bool {

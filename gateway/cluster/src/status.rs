@@ -11,7 +11,7 @@ use tokio::time::sleep;
 use crate::decision::View;
 use crate::etcd::{Entry, Operation};
 use crate::memory::Size;
-use crate::records::{self, last_number, Beat, Chain, Cluster, GatewayPhase, Line, Registration};
+use crate::records::{self, last_number, Beat, Chain, Cluster, GatewayPhase, JournalKind, Line, Registration};
 use crate::roster::Roster;
 use crate::silence::Silence;
 
@@ -19,7 +19,7 @@ use crate::silence::Silence;
 const LOOK: Duration = Duration::from_millis(1200);
 
 /// What is said of a server, for people.
-const COLUMNS: usize = 11;
+const COLUMNS: usize = 13;
 
 /// One server.
 #[derive(Debug, Serialize)]
@@ -37,11 +37,17 @@ struct Server {
     is_full: bool,
     is_acting: bool,
     is_condemned: bool,
+    /// Why its node asks for that, if it does.
+    fault: Option<String>,
     clients: usize,
+    /// How many fronts were in contact with it at its last beat.
+    fronts: usize,
     /// So many bytes its process had in memory at its last beat.
     memory_bytes: u64,
     /// What messages may use there, by the count of the gateway that acts.
     memory_bound_bytes: u64,
+    /// Whether it keeps a journal, and when that is on the disk.
+    journal: Option<JournalKind>,
     /// How far its gateway is, by its last beat.
     gateway: Option<GatewayPhase>,
 }
@@ -94,9 +100,14 @@ pub async fn look(cluster: &Cluster) -> Result<Status> {
         letters: &[],
         condemned: &last.condemned,
     };
-    let lost = |server: &u32| !beating(server) || last.condemned.contains(server);
+    // The master undoes what a node asks for in vain, which asks again with each beat.
+    let fault = |server: &u32| last.beats.get(server).and_then(|(_, beat)| beat.condemned.clone());
+    let lost = |server: &u32| !beating(server) || last.condemned.contains(server) || fault(server).is_some();
     let why = roster.line_of_servers().filter(lost).find_map(|server| Some((server, view.why_kept(server)?)));
-    let waits = why.map(|(server, why)| format!("server {server} doesn't beat or is condemned, and {why}"));
+    let waits = why.map(|(server, why)| match fault(&server) {
+        Some(fault) if beating(&server) => format!("server {server} is condemned ({fault}), and {why}"),
+        _ => format!("server {server} doesn't beat or is condemned, and {why}"),
+    });
     Ok(Status {
         cluster: cluster.name.clone(),
         incarnation: cluster.settings.incarnation.clone(),
@@ -126,10 +137,13 @@ fn servers(look: &Look, beats: impl Fn(&u32) -> bool) -> Vec<Server> {
             hears: beat.hears,
             is_full: chain.full.contains(&number),
             is_acting: beat.is_acting,
-            is_condemned: look.condemned.contains(&number),
+            is_condemned: look.condemned.contains(&number) || beat.condemned.is_some(),
+            fault: beat.condemned,
             clients: beat.clients,
+            fronts: beat.fronts,
             memory_bytes: beat.memory,
             memory_bound_bytes: look.registrations.get(&number).map_or(0, |registration| registration.memory),
+            journal: look.registrations.get(&number).and_then(|registration| registration.journal),
             gateway: beat.gateway,
         }
     };
@@ -225,7 +239,10 @@ impl Status {
     pub fn columns(&self) -> String {
         let mut out = String::new();
         let _ = writeln!(out, "cluster {} {}, line {} of the log", self.cluster, self.incarnation, self.line);
-        let head = ["server", "address", "role", "count", "lag", "beats", "hears", "full", "acts", "memory", "gateway"];
+        let head = [
+            "server", "address", "role", "count", "lag", "beats", "hears", "full", "acts", "fronts", "memory",
+            "journal", "gateway",
+        ];
         let head = head.map(String::from);
         let rows: Vec<[String; COLUMNS]> = std::iter::once(head).chain(self.servers.iter().map(row)).collect();
         let width = |column: usize| rows.iter().map(|row| row[column].len()).max().unwrap_or(0);
@@ -257,7 +274,13 @@ fn row(server: &Server) -> [String; COLUMNS] {
         hears.join(","),
         yes(server.is_full),
         yes(server.is_acting),
+        server.fronts.to_string(),
         format!("{}/{}", Size(server.memory_bytes), Size(server.memory_bound_bytes)),
+        match server.journal {
+            Some(JournalKind::Durable) => "durable".into(),
+            Some(JournalKind::Buffered) => "buffered".into(),
+            None => "-".into(),
+        },
         match server.gateway {
             Some(GatewayPhase::Acts) => "acts".into(),
             Some(GatewayPhase::Begins) => "begins".into(),

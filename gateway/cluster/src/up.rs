@@ -22,6 +22,9 @@ use crate::{say, status};
 /// What the cluster is called.
 const NAME: &str = "try";
 
+/// The folder of the journals in the cluster's own.
+const JOURNALS: &str = "journals";
+
 /// So long etcd may take to begin.
 const ETCD: Duration = Duration::from_secs(20);
 
@@ -83,7 +86,7 @@ pub async fn up(settings: &Settings) -> Result<()> {
         let (name, first, gateway) = (node(number), number.to_string(), format!("127.0.0.1:{}", free_port()?));
         let words = ["node", "--listen", "127.0.0.1:0", "--first", &first, "--gateway", &gateway];
         let mut node = command(&words, &name);
-        node.args(["--memory", &memory]);
+        node.args(["--memory", &memory]).arg("--journal").arg(folder.join(JOURNALS));
         if let Some(config) = gateway_config {
             node.arg("--gateway-config").arg(config);
         }
@@ -186,7 +189,7 @@ fn make_folder(folder: &Path) -> Result<()> {
         fs::read_dir(folder).with_context(|| format!("{} can't be read", folder.display()))?.next().is_none();
     if !is_empty {
         bail!(
-            "{} was used before, and is left as it is: nodes keep nothing on disk yet, so give another folder",
+            "{} was used before, and is left as it is: hobbychair cluster recover takes the journals in it. Give another folder",
             folder.display()
         );
     }
@@ -272,7 +275,8 @@ async fn tell_of(
     let port = free_port()?;
     let files = shown.said(&node(nodes + 1));
     say(&format!(
-        "to add a node: hobbychair node --cluster {NAME} --etcd {url} --listen 127.0.0.1:0 --gateway 127.0.0.1:{port} --join{files}"
+        "to add a node: hobbychair node --cluster {NAME} --etcd {url} --listen 127.0.0.1:0 --gateway 127.0.0.1:{port} --journal {} --join{files}",
+        folder.join(JOURNALS).display()
     ));
     Ok(())
 }

@@ -26,13 +26,15 @@ pub enum Frame {
     /// A link begins or goes on: the sender, the nonce of its registration, for whom it is, and all servers that are gone
     /// as far as the sender knows.
     Link { about: About, from: u32, nonce: String, to: u32, gone: Vec<u32> },
+    /// A front, whose pings say that it is in contact.
+    Front { about: About },
     /// A client, who wants the answers for client numbers from the first to the last.
     Client { about: About, first: u32, last: u32 },
     /// A piece of a message. The number in front is the frame's own on its link.
     Message { frame: u64, place: Place, piece: Bytes },
     /// That server was detected.
     Gone { frame: u64, server: u32 },
-    /// The cluster's time at the sender.
+    /// The cluster's time at the sender; 0 from a front. A front is answered by one.
     Ping { time: u64 },
     /// Requests of a stream.
     Batch { stream: u64, requests: Vec<Bytes> },
@@ -90,6 +92,7 @@ impl Frame {
                 out.number64(*stream);
                 out.run(query);
             }),
+            Frame::Front { about } => frame(7, |out| put_about(out, about)),
             Frame::Welcome { received, gone } => frame(16, |out| {
                 out.number64(*received);
                 out.servers(gone);
@@ -126,6 +129,7 @@ impl Frame {
             4 => Frame::Ping { time: from.number64()? },
             5 => Frame::Batch { stream: from.number64()?, requests: runs(&mut from)? },
             6 => Frame::Query { stream: from.number64()?, query: from.run()? },
+            7 => Frame::Front { about: about(&mut from)? },
             16 => Frame::Welcome { received: from.number64()?, gone: from.servers()? },
             17 => Frame::Received { frame: from.number64()? },
             18 => Frame::Standing { server: from.server()?, is_head: from.flag()?, is_acting: from.flag()? },
@@ -175,6 +179,7 @@ mod tests {
         let place = Place { number: 7, index: 8 };
         vec![
             Frame::Link { about: about.clone(), from: 1, nonce: "n".into(), to: 2, gone: vec![3, 4] },
+            Frame::Front { about: about.clone() },
             Frame::Client { about, first: 0, last: 255 },
             Frame::Message { frame: 1, place, piece: piece.clone() },
             Frame::Gone { frame: 2, server: 3 },

@@ -1,7 +1,6 @@
 //! The journal of an earlier version, 1 to 8, which a gateway kept itself. It is read once, at the first start of this
 //! version, and put away.
 
-mod frame;
 mod record;
 mod segments;
 mod version1;

@@ -3,10 +3,10 @@
 use std::collections::HashSet;
 use std::io;
 
+use hobbychair_cluster::framing::{self as frame, Frame};
 use serde::{Deserialize, Serialize};
 use thiserror::Error;
 
-use super::frame::{self, Frame};
 use super::record::Record;
 use super::Segments;
 use crate::queues::ask::StoreName;

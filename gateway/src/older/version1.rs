@@ -7,13 +7,13 @@ use std::borrow::Cow;
 use std::collections::{BTreeMap, HashMap};
 use std::io::{self, Write};
 
+use hobbychair_cluster::framing::MARK;
 use serde::{Deserialize, Serialize};
 use serde_json::value::RawValue;
 use sha2::{Digest, Sha256};
 use tokio::io::{AsyncBufReadExt, AsyncWriteExt, BufReader};
 use uuid::Uuid;
 
-use super::frame::MARK;
 use super::record::{Creation, Record};
 use super::segments::OlderError;
 use crate::attributes::{GivenAttributes, QueueAttributes};

@@ -81,11 +81,13 @@ async fn take_up_from(
     take: &mut Take<'_>,
 ) -> Result<(Cq, NodeStart), BesideNodeError> {
     let (mut cq, mut cutter) = (Cq::of_node(socket), Cutter::default());
+    let mut paused = None;
     loop {
         match next(&mut cq, &mut cutter).await? {
             FromNode::Time { time, since_start } => say_alive(&mut cq, clock, time, since_start).await?,
             FromNode::Chunk { chunk } => take(&chunk)?,
-            FromNode::Stored { server } => return Ok((cq, NodeStart { server, incoming: cutter.buffer })),
+            FromNode::Paused { last, begun } => paused = Some((last, begun)),
+            FromNode::Stored { server } => return Ok((cq, NodeStart { server, paused, incoming: cutter.buffer })),
             // They are about what an earlier gateway asked.
             FromNode::Answer { .. } | FromNode::Acts | FromNode::Refused { .. } | FromNode::Memory { .. } => {}
         }
@@ -116,7 +118,7 @@ mod tests {
     #[tokio::test]
     async fn the_node_is_told_that_the_gateway_works_while_its_tables_are_made() {
         let (gateway, node) = UnixStream::pair().unwrap();
-        let (clock, mut start) = (Clock::new(), NodeStart { server: 1, incoming: Default::default() });
+        let (clock, mut start) = (Clock::new(), NodeStart { server: 1, paused: None, incoming: Default::default() });
         let (reading, mut writing) = node.into_split();
         let mut reading = Frames::new(reading, FRAME_LIMIT);
         let (done, is_done) = std::sync::mpsc::channel::<()>();
@@ -133,5 +135,16 @@ mod tests {
         let mut cq = Cq::of_node(gateway);
         let (made, ()) = tokio::join!(wait_for(work, &mut cq, &mut start, &clock), node);
         assert!(made.unwrap());
+    }
+
+    #[tokio::test]
+    async fn that_the_chain_stood_still_is_told_ahead_of_the_store() {
+        let (gateway, mut node) = UnixStream::pair().unwrap();
+        let paused = FromNode::Paused { last: 5, begun: 9 };
+        for told in [FromNode::Time { time: 9, since_start: 0 }, paused, FromNode::Stored { server: 1 }] {
+            node.write_all(&told.bytes()).await.unwrap();
+        }
+        let (_cq, start) = take_up_from(gateway, &Clock::new(), &mut |_| Ok(())).await.unwrap();
+        assert_eq!((start.server, start.paused), (1, Some((5, 9))));
     }
 }

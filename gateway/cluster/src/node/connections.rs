@@ -19,6 +19,7 @@ use crate::parts::{Frames, FRAME_LIMIT};
 use crate::transport::{self, Reading, Writing};
 use crate::wire::{About, Frame, GREETING_LIMIT};
 
+use super::fronts::{self, MOST_FRONTS};
 use super::streams::Work;
 use super::{Event, Shared};
 
@@ -221,7 +222,7 @@ async fn serve(connection: TcpStream, stranger: Stranger, node: &Arc<Shared>) ->
     };
     drop(stranger);
     let reading = reading.with_limit(FRAME_LIMIT);
-    if let Err(why) = peer.as_ref().map_or(Ok(()), |peer| peer.test(&[Role::Node])) {
+    if let Err(why) = peer.as_ref().map_or(Ok(()), |peer| peer.test(roles_for(&greeting))) {
         return turn_away(writing, why).await;
     }
     match greeting {
@@ -242,7 +243,20 @@ async fn serve(connection: TcpStream, stranger: Stranger, node: &Arc<Shared>) ->
             (Ok(()), Err(_)) => turn_away(writing, format!("{MOST_CLIENTS} clients are there already")).await,
             (Err(why), _) => turn_away(writing, why).await,
         },
+        Frame::Front { about } => match (test_about(node, &about), node.front_places.try_acquire()) {
+            (Ok(()), Ok(_place)) => fronts::serve(node, reading, writing).await,
+            (Ok(()), Err(_)) => turn_away(writing, format!("{MOST_FRONTS} fronts are there already")).await,
+            (Err(why), _) => turn_away(writing, why).await,
+        },
         _ => Err(other("it greets with another frame")),
+    }
+}
+
+/// Who may greet so.
+fn roles_for(greeting: &Frame) -> &'static [Role] {
+    match greeting {
+        Frame::Front { .. } => &[Role::Front, Role::Node],
+        _ => &[Role::Node],
     }
 }
 

@@ -14,14 +14,17 @@ use tokio::sync::Notify;
 use crate::child::{Child, Told};
 use crate::clock;
 use crate::commands::{Command, Message, Party, Place, Response, Standing, NO_MEMORY};
+use crate::journal::Written;
 use crate::link::Link;
 use crate::lock;
+use crate::pipe::FromNode;
 use crate::records::Chain;
 use crate::wire::Frame;
 
 use super::connections::{next_connection, Acknowledging, Linked};
 use super::gateway::{self, Beside};
 use super::inbox::{Inbox, Taken};
+use super::keeping::{Added, Keeping};
 use super::streams::{Streams, Turn, Work};
 use super::trace::Trace;
 use super::{End, Event, Report, Shared};
@@ -48,9 +51,11 @@ const LEAVING: Duration = Duration::from_secs(10);
 const MOST_PIECES: usize = 16;
 
 /// A command that wasn't answered.
-struct Open {
+pub struct Open {
     what: What,
     since: Instant,
+    /// The request or the piece that it tells.
+    content: Option<Bytes>,
     /// Its frame, where it is traced.
     frame: Option<Vec<u8>>,
     /// The responses so far.
@@ -67,6 +72,16 @@ enum What {
     /// A query of the gateway, which is lost where it is refused.
     OfGateway,
     Save,
+    /// A copy of the store for the journal.
+    Copy,
+}
+
+/// What waits until the journal has what it comes of.
+pub enum Waits {
+    /// What comes of an answer of the server.
+    Heard(Open, Response),
+    /// What was read of the log.
+    Read { detected: Vec<u32>, chain: Chain, orders: Vec<(u64, Bytes)> },
 }
 
 /// When something that waits at the server is asked for.
@@ -111,6 +126,7 @@ pub struct Core {
     streams: Streams,
     gateway: Beside,
     trace: Option<Trace>,
+    keeping: Option<Keeping<Waits>>,
     /// When the server told something last.
     told: Instant,
     is_stuck: bool,
@@ -130,6 +146,8 @@ impl Core {
         child: Child,
         gateway: Option<gateway::Settings>,
         trace: Option<&Path>,
+        keeping: Option<Keeping<Waits>>,
+        paused: Option<FromNode>,
     ) -> Result<Core> {
         Ok(Core {
             node,
@@ -146,8 +164,9 @@ impl Core {
             inboxes: BTreeMap::new(),
             waiting: BTreeMap::new(),
             streams: Streams::default(),
-            gateway: Beside::new(gateway),
+            gateway: Beside::new(gateway, paused),
             trace: trace.map(Trace::begin).transpose()?,
+            keeping,
             told: Instant::now(),
             is_stuck: false,
             leaving: None,
@@ -164,6 +183,7 @@ impl Core {
         self.give(What::More(Party::Clients), &Command::More(Party::Clients));
         while let Some(event) = events.recv().await {
             self.happen(event);
+            self.settle();
             if let Some(end) = self.end {
                 return end;
             }
@@ -192,7 +212,8 @@ impl Core {
             }
             Event::Came { from, connection, frame } => self.came(from, connection, frame),
             Event::Received => {}
-            Event::Read { detected, chain, orders } => self.read(&detected, chain, orders),
+            Event::Read { detected, chain, orders } => self.hear_of_log(detected, chain, orders),
+            Event::Journal(written) => self.hear_of_journal(written),
             Event::Client { client, outlet } => {
                 self.streams.enter(client, outlet);
                 self.streams.send(client, &self.frame_of_standing());
@@ -230,8 +251,12 @@ impl Core {
     fn give(&mut self, what: What, command: &Command) {
         let frame = command.frame();
         let kept = self.trace.is_some().then(|| frame.clone());
+        let content = match command {
+            Command::Arrive { request: content, .. } | Command::Take { piece: content, .. } => Some(content.clone()),
+            _ => None,
+        };
         self.child.give(frame);
-        self.open.push_back(Open { what, since: Instant::now(), frame: kept, responses: Vec::new() });
+        self.open.push_back(Open { what, since: Instant::now(), content, frame: kept, responses: Vec::new() });
     }
 
     fn hear(&mut self, response: Response) {
@@ -245,15 +270,23 @@ impl Core {
         let Some(open) = self.open.pop_front() else {
             return self.fail("cq server answers what nobody asked for".into());
         };
-        let refused = match &response {
-            Response::Refused(code) | Response::Unread(code) => Some(*code),
-            _ => None,
-        };
-        if refused.is_none() {
+        if refusal(&response).is_none() {
             if let Err(error) = self.write_down(&open, &response) {
                 return self.fail(format!("the trace can't be written: {error}"));
             }
         }
+        if let Err(why) = self.keep(&open, &response) {
+            return self.fail(why);
+        }
+        match &mut self.keeping {
+            Some(keeping) => keeping.wait(Waits::Heard(open, response)),
+            None => self.take_effect(open, response),
+        }
+    }
+
+    /// What comes of an answer.
+    fn take_effect(&mut self, open: Open, response: Response) {
+        let refused = refusal(&response);
         if let Response::Done(standing) = response {
             self.stand(standing);
         }
@@ -267,6 +300,53 @@ impl Core {
                 Response::Saved { chunk, .. } => self.gateway.saved(self.node.id, chunk, &mut self.streams),
                 _ => {}
             }
+        }
+    }
+
+    /// What the answer adds to the list goes to the journal.
+    fn keep(&mut self, open: &Open, last: &Response) -> Result<(), String> {
+        let Some(keeping) = &mut self.keeping else { return Ok(()) };
+        if let What::Copy = open.what {
+            let chunk = open.responses.iter().find_map(|response| match response {
+                Response::Saved { count, chunk } => Some((*count, chunk.clone())),
+                _ => None,
+            });
+            match chunk {
+                Some((count, chunk)) => keeping.copied(count, chunk),
+                None => keeping.not_copied(),
+            }
+        }
+        let Response::Done(standing) = last else { return Ok(()) };
+        let is_arrival = matches!(open.what, What::Request(_));
+        match (keeping.added(open.content.as_ref(), is_arrival, standing)?, &open.what) {
+            (Added::Entry(entry), _) => keeping.add_entry(entry),
+            (Added::Store, What::Take(from, place)) => {
+                let chunks = self.inboxes.get(from).map(|inbox| inbox.chunks(place.number)).unwrap_or_default();
+                keeping.replace(standing.count, chunks);
+            }
+            (Added::Store | Added::Nothing, _) => {}
+        }
+        Ok(())
+    }
+
+    /// What waits for nothing more happens.
+    fn settle(&mut self) {
+        self.keeping.iter_mut().for_each(Keeping::flush);
+        while let Some(what) = self.keeping.as_mut().filter(|_| self.end.is_none()).and_then(Keeping::next) {
+            match what {
+                Waits::Heard(open, response) => self.take_effect(open, response),
+                Waits::Read { detected, chain, orders } => self.read(&detected, chain, orders),
+            }
+        }
+    }
+
+    fn hear_of_journal(&mut self, written: Written) {
+        let Some(keeping) = &mut self.keeping else { return };
+        let had_fault = keeping.fault().is_some();
+        keeping.hear(written);
+        if keeping.fault().is_some() != had_fault {
+            self.report();
+            self.node.look.notify_one();
         }
     }
 
@@ -286,7 +366,7 @@ impl Core {
             }
             What::Request(client) => self.streams.answered(client, true, refused),
             What::Query(client) => self.streams.answered(client, false, refused),
-            What::OfGateway => {}
+            What::OfGateway | What::Copy => {}
             What::Save => {
                 if let Some(code) = refused {
                     self.gateway.not_saved(code, &mut self.streams);
@@ -384,10 +464,20 @@ impl Core {
         while let Some(query) = self.gateway.next_query() {
             self.give(What::OfGateway, &Command::Ask { query });
         }
-        if self.gateway.next_save() {
+        self.ask_for_copies();
+        self.ask_for_more();
+    }
+
+    /// The server makes one copy at a time. The gateway's goes ahead of the journal's.
+    fn ask_for_copies(&mut self) {
+        let gateway_needs_one = self.gateway.needs_copies();
+        let is_for_journal = self.keeping.as_mut().is_some_and(|keeping| keeping.next_copy(gateway_needs_one));
+        let is_copying = self.keeping.as_ref().is_some_and(Keeping::is_copying);
+        if is_for_journal {
+            self.give(What::Copy, &Command::Save);
+        } else if !is_copying && self.gateway.next_save() {
             self.give(What::Save, &Command::Save);
         }
-        self.ask_for_more();
     }
 
     /// Asks for what waits. Of a snapshot, a few pieces are on their way at once.
@@ -430,10 +520,13 @@ impl Core {
                 continue;
             }
             if *server == self.node.id {
-                self.end = Some(End::Detected);
+                self.end = Some(self.end_by_log());
                 return;
             }
             tracing::info!(server, "a server is gone");
+            if let Some(keeping) = &mut self.keeping {
+                keeping.learn_gone(*server);
+            }
             lock(&self.node.gone).insert(*server);
             lock(&self.node.linked).remove(server);
             if let Some(link) = self.links.remove(server) {
@@ -449,6 +542,14 @@ impl Core {
             self.tell_gone(*server);
         }
         self.hear_others();
+    }
+
+    /// This server was detected.
+    fn end_by_log(&self) -> End {
+        match self.keeping.as_ref().and_then(Keeping::fault) {
+            Some((_, why)) => End::Fault(format!("its journal can't be written, and others go on without it: {why}")),
+            None => End::Detected,
+        }
     }
 
     /// The gateway hears all other servers of the chain, since answers come from the one that acts.
@@ -535,6 +636,20 @@ impl Core {
 
     // ---- what the log says
 
+    /// What was read of the log happens once the journal has it. That this server is lost needs no journal.
+    fn hear_of_log(&mut self, detected: Vec<u32>, chain: Chain, orders: Vec<(u64, Bytes)>) {
+        if detected.contains(&self.node.id) {
+            return self.learn(&[self.node.id]);
+        }
+        let Some(keeping) = &mut self.keeping else { return self.read(&detected, chain, orders) };
+        let is_new = keeping.learn_chain(&chain);
+        if is_new || keeping.has_waiting() {
+            keeping.wait(Waits::Read { detected, chain, orders });
+        } else {
+            self.read(&detected, chain, orders);
+        }
+    }
+
     fn read(&mut self, detected: &[u32], chain: Chain, orders: Vec<(u64, Bytes)>) {
         self.learn(detected);
         if self.end.is_some() {
@@ -589,6 +704,7 @@ impl Core {
         if self.ticked.elapsed() > STOPPED {
             // This process was stopped, and perhaps the server with it.
             self.told = Instant::now();
+            self.keeping.iter_mut().for_each(Keeping::begin_again);
         }
         self.ticked = Instant::now();
         self.inboxes.values_mut().for_each(Inbox::begin_again);
@@ -653,13 +769,22 @@ impl Core {
         let hears =
             |(server, peer): (&u32, &Peer)| peer.heard.is_some_and(|heard| heard.elapsed() < HEARD).then_some(*server);
         let leaves = self.leaving.map(|_| "its node is told to end");
+        let disk = self.keeping.as_ref().and_then(Keeping::fault).map(|(why, _)| why);
         *lock(&self.node.report) = Report {
             standing: self.standing,
             hears: self.peers.iter().filter_map(hears).collect(),
             clients: self.streams.len(),
-            condemned: self.is_stuck.then_some("its process doesn't answer").or(leaves),
+            condemned: self.is_stuck.then_some("its process doesn't answer").or(disk).or(leaves),
             late_joiner: self.late_joiner,
             gateway: self.gateway.phase(),
         };
+    }
+}
+
+/// Why a command was refused, if it was.
+fn refusal(response: &Response) -> Option<u32> {
+    match response {
+        Response::Refused(code) | Response::Unread(code) => Some(*code),
+        _ => None,
     }
 }

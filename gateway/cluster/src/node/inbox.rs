@@ -54,6 +54,13 @@ impl Inbox {
         Some((*place, Command::Take { from: self.from, place: *place, piece: piece.clone() }))
     }
 
+    /// The chunks of a snapshot, all of whose pieces were given.
+    pub fn chunks(&self, number: u64) -> Vec<Bytes> {
+        let of_message = self.pieces.iter().filter(|(place, _)| place.number == number);
+        let chunk = |piece: &Bytes| matches!(Message::read(piece), Ok(Message::Chunk)).then(|| piece.slice(2..));
+        of_message.filter_map(|(_, piece)| chunk(piece)).collect()
+    }
+
     /// The server has taken the piece, or refused it with a number.
     pub fn answered(&mut self, place: Place, refused: Option<u32>) -> Taken {
         self.open = self.open.saturating_sub(1);

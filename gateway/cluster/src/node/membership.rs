@@ -185,8 +185,10 @@ impl Membership {
             took: self.next_order - 1,
             hears: report.hears.clone(),
             clients: report.clients,
+            fronts: self.node.fronts.count(),
             memory: memory::used_by(self.node.child),
             gateway: report.gateway,
+            condemned: report.condemned.map(Into::into),
         }
     }
 

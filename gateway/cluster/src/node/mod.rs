@@ -2,8 +2,11 @@
 
 mod connections;
 mod core;
+mod fronts;
 pub mod gateway;
 mod inbox;
+pub mod keeping;
+mod loading;
 mod membership;
 mod streams;
 mod trace;
@@ -26,13 +29,16 @@ use crate::child::{Child, Told};
 use crate::clock::{self, Clock};
 use crate::commands::Standing;
 use crate::etcd::{Guard, Operation};
+use crate::journal::{self, Folder, Written};
 use crate::pipe::FromNode;
-use crate::records::{self, random_name, Chain, Cluster, GatewayPhase, Registration};
+use crate::records::{self, random_name, Chain, Cluster, GatewayPhase, JournalKind, Registration};
 use crate::wire::{About, Frame};
 use crate::{lock, say};
 
 use self::connections::{Linked, Outlet};
 use self::core::Core;
+use self::fronts::Fronts;
+use self::keeping::Keeping;
 use self::streams::Work;
 
 /// How a node begins.
@@ -52,6 +58,8 @@ pub struct Settings {
     /// The gateway beside it, if it has one.
     pub gateway: Option<gateway::Settings>,
     pub limits: Limits,
+    /// The journal that it keeps, if it keeps one.
+    pub journal: Option<keeping::Settings>,
     /// A file for all that the server was told and told, for tests.
     pub trace: Option<PathBuf>,
 }
@@ -111,6 +119,8 @@ pub enum Event {
     Left { client: u64 },
     /// Something about the gateway beside this node.
     Gateway(gateway::Happening),
+    /// The journal is written so far.
+    Journal(Written),
     /// A signal: somebody ends this node.
     Leave,
     /// Some time has passed.
@@ -149,6 +159,9 @@ pub struct Shared {
     report: Mutex<Report>,
     /// Places for clients.
     clients: Semaphore,
+    fronts: Fronts,
+    /// Places for fronts.
+    front_places: Semaphore,
     /// There may be something to read or to write in etcd.
     look: Arc<Notify>,
 }
@@ -210,16 +223,38 @@ pub async fn run(cluster: Cluster, settings: Settings) -> Result<End> {
     if let Some(settings) = &settings.gateway {
         gateway::test(&cluster, settings).await?;
     }
+    let (events, mut heard) = unbounded_channel();
+    // One that can't begin with its store has taken no number.
+    let loaded = match find_store(&cluster, &settings)? {
+        Some(found) => {
+            let child = start_child(&cluster, found.head.server, &settings, events.clone())?;
+            let standing = loading::load(&child, &mut heard, &found).await?;
+            Some((child, standing))
+        }
+        None => None,
+    };
     let listener = TcpListener::bind(listen).await.with_context(|| format!("can't listen on {listen}"))?;
     let local = listener.local_addr()?;
     let address = settings.place.found_at(local, "a node", "--advertise", has_certificates).await?;
     let nonce = random_name();
     let certificate = cluster.identity.as_ref().map(|identity| identity.fingerprint());
-    let registration =
-        Registration { nonce: nonce.clone(), address, gateway, certificate, memory: settings.limits.memory };
+    let kind = |journal: &keeping::Settings| match journal.is_durable {
+        true => JournalKind::Durable,
+        false => JournalKind::Buffered,
+    };
+    let (memory, journal) = (settings.limits.memory, settings.journal.as_ref().map(kind));
+    let registration = Registration { nonce: nonce.clone(), address, gateway, certificate, memory, journal };
     let id = register(&cluster, settings.beginning, &registration).await?;
-    let (events, heard) = unbounded_channel();
-    let child = start_child(&cluster, id, &settings, events.clone())?;
+    let (child, loaded) = match loaded {
+        Some((child, standing)) => (child, Some(standing)),
+        None => (start_child(&cluster, id, &settings, events.clone())?, None),
+    };
+    let (clock, paused) = begin_time(loaded.as_ref());
+    let tell = events.clone();
+    let tell = move |event| drop(tell.send(event));
+    let count = loaded.map(|standing| standing.count);
+    let keep = |settings| Keeping::begin(&cluster, id, settings, count, tell);
+    let keeping = settings.journal.as_ref().map(keep).transpose().context("the journal can't be begun")?;
     let node = Arc::new(Shared {
         cluster: cluster.for_long(),
         id,
@@ -227,19 +262,21 @@ pub async fn run(cluster: Cluster, settings: Settings) -> Result<End> {
         limits: settings.limits,
         child: child.id(),
         events,
-        clock: Mutex::default(),
+        clock: Mutex::new(clock),
         gone: Mutex::default(),
         registrations: Mutex::default(),
         linked: Mutex::default(),
         letters: Mutex::default(),
         report: Mutex::default(),
         clients: Semaphore::new(connections::MOST_CLIENTS),
+        fronts: Fronts::default(),
+        front_places: Semaphore::new(fronts::MOST_FRONTS),
         look: Arc::new(Notify::new()),
     });
     let found = if address == local { String::new() } else { format!(" and is found at {address}") };
     say(&format!("server {id} listens on {local}{found}"));
     tracing::info!(server = id, %address, child = child.id(), "a node begins");
-    let core = Core::new(node.clone(), child, settings.gateway, settings.trace.as_deref())?;
+    let core = Core::new(node.clone(), child, settings.gateway, settings.trace.as_deref(), keeping, paused)?;
     for kind in [SignalKind::terminate(), SignalKind::interrupt()] {
         tokio::spawn(hear_signals(signal(kind)?, node.clone()));
     }
@@ -247,6 +284,39 @@ pub async fn run(cluster: Cluster, settings: Settings) -> Result<End> {
     tokio::spawn(membership::keep(node.clone(), settings.beginning == Beginning::Join));
     tokio::spawn(tick(node));
     Ok(core.run(heard).await)
+}
+
+/// The time, and what gateways are told of it, where the server begins with a store that was recovered.
+fn begin_time(loaded: Option<&Standing>) -> (Clock, Option<FromNode>) {
+    let mut clock = Clock::default();
+    let paused = loaded.map(|standing| {
+        let since_start = clock::since_start();
+        clock.go_on_from(standing.last, clock::wall(), since_start);
+        FromNode::Paused { last: standing.last, begun: clock.now(since_start) }
+    });
+    (clock, paused)
+}
+
+/// The journal with which the node begins, where the cluster was recovered. Without it, nothing of what was recovered would be
+/// there.
+fn find_store(cluster: &Cluster, settings: &Settings) -> Result<Option<journal::Found>> {
+    if let Some(journal) = &settings.journal {
+        journal::prepare(&journal.folder).context("journals can't be kept")?;
+    }
+    let (Some(recovered), Beginning::First(server)) = (&cluster.settings.recovered, settings.beginning) else {
+        return Ok(None);
+    };
+    let Some(journal) = &settings.journal else {
+        bail!("this cluster was recovered: give the --journal that hobbychair cluster recover wrote to");
+    };
+    let folder = Folder::of(&journal.folder, &cluster.settings.incarnation, server);
+    let found = journal::Found::read(&folder)
+        .context("this cluster was recovered, and its server begins with what hobbychair cluster recover wrote")?;
+    let is_it = found.base == recovered.count && found.count == found.base && found.store.is_some();
+    if !is_it {
+        bail!("{} isn't what hobbychair cluster recover wrote: a number is used once", folder.0.display());
+    }
+    Ok(Some(found))
 }
 
 /// Where fronts find the gateway.
@@ -264,7 +334,10 @@ async fn find_gateway(place: &Place, has_certificates: bool) -> Result<SocketAdd
 fn start_child(cluster: &Cluster, id: u32, settings: &Settings, events: UnboundedSender<Event>) -> Result<Child> {
     let mut words = vec!["server".to_string(), "--id".into(), id.to_string()];
     match settings.beginning {
-        Beginning::First(_) => words.extend(["--first".into(), cluster.settings.servers.to_string()]),
+        Beginning::First(_) => {
+            words.extend(["--first".into(), cluster.settings.servers.to_string()]);
+            words.extend(cluster.settings.recovered.as_ref().map(|_| "--load".into()));
+        }
         Beginning::Join => words.push("--joining".into()),
     }
     let told = move |told| drop(events.send(Event::Told(told)));

@@ -26,7 +26,7 @@ use super::admission::Admission;
 use super::figures::Counters;
 use super::told::{self, ToldError};
 use super::{AnswerSender, Answers, Hold, Holds, Job, Operation, Store};
-use crate::clock::Clock;
+use crate::clock::{Clock, Moment};
 use crate::cq::{Cq, CqError, KeptFile};
 use crate::errors::SqsError;
 use crate::lines::BadOutput;
@@ -142,6 +142,9 @@ pub struct Start {
 pub struct NodeStart {
     /// Its server's number.
     pub server: u32,
+    /// The moments of the last entry before the chain stood still and was recovered, and when it went on; nothing where it
+    /// wasn't.
+    pub paused: Option<(Moment, Moment)>,
     /// What was read of it already.
     pub incoming: BytesMut,
 }

@@ -133,13 +133,16 @@ pub struct Beside {
     queries: VecDeque<Bytes>,
     /// What messages may use at each server, in bytes.
     memory: u64,
+    /// That the chain began with a store that was recovered, for gateways.
+    paused: Option<FromNode>,
 }
 
 pub use process::test;
 
 impl Beside {
-    pub fn new(settings: Option<Settings>) -> Beside {
-        Beside { settings, ..Beside::default() }
+    /// `paused` is told to each gateway ahead of the store, if it is there.
+    pub fn new(settings: Option<Settings>, paused: Option<FromNode>) -> Beside {
+        Beside { settings, paused, ..Beside::default() }
     }
 
     /// The server is the head: a gateway is kept from now on.
@@ -190,6 +193,10 @@ impl Beside {
     // ---- lives
 
     fn begin(&mut self, number: u64, outlet: Outlet, wanted: oneshot::Sender<()>) {
+        // One that is gone, or doesn't read, is given up by others.
+        if let Some(paused) = &self.paused {
+            let _ = outlet.send_bytes(paused.bytes());
+        }
         self.life = Some(Life {
             number,
             outlet,
@@ -270,6 +277,12 @@ impl Beside {
     }
 
     // ---- the copy
+
+    /// Whether a copy is made for a gateway, or is to be made.
+    pub fn needs_copies(&self) -> bool {
+        let is_wanted = self.life.as_ref().is_some_and(|life| life.store == Store::None);
+        is_wanted || matches!(self.copy, Copying::Asked(_) | Copying::Begun(_))
+    }
 
     /// Whether the server is to be asked for the next chunk of a copy. If so it counts as asked for.
     pub fn next_save(&mut self) -> bool {

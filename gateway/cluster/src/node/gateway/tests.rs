@@ -279,3 +279,29 @@ async fn a_query_goes_to_the_server_that_acts_or_is_lost() {
     assert_eq!(beside.next_query(), Some(chunk("c")));
     assert!(asked.try_recv().is_err() && beside.next_query().is_none());
 }
+
+#[test]
+fn each_gateway_is_told_first_that_the_chain_was_recovered() {
+    let paused = FromNode::Paused { last: 5, begun: 9 };
+    let (mut beside, mut streams) = (Beside::new(None, Some(paused.clone())), Streams::default());
+    for life in [1, 2] {
+        let mut far = begin(&mut beside, &mut streams, life);
+        assert_eq!(far.heard(), std::slice::from_ref(&paused));
+    }
+}
+
+#[test]
+fn a_copy_is_needed_until_it_is_told_to_its_end() {
+    let (mut beside, mut streams) = (Beside::default(), Streams::default());
+    assert!(!beside.needs_copies());
+    let _far = begin(&mut beside, &mut streams, 1);
+    assert!(beside.needs_copies() && beside.next_save());
+    beside.saved(1, chunk("one"), &mut streams);
+    beside.happen(Happening::Ended { life: 1 }, &mut streams);
+    assert!(beside.needs_copies(), "it is asked for to its end");
+    assert!(beside.next_save());
+    beside.saved(1, Bytes::new(), &mut streams);
+    assert!(!beside.needs_copies());
+    let (beside, _far) = begun(&mut streams);
+    assert!(!beside.needs_copies());
+}

@@ -163,7 +163,7 @@ impl Task {
                 self.admission.bound_by_chain(bound);
                 Ok(())
             }
-            FromNode::Chunk { .. } | FromNode::Stored { .. } => Ok(()),
+            FromNode::Chunk { .. } | FromNode::Stored { .. } | FromNode::Paused { .. } => Ok(()),
         }
     }
 

@@ -93,7 +93,7 @@ fn chain() -> (Store, Arc<Queue>, Node) {
         patience: Duration::MAX,
         shards: Shards::ONE,
         cqs: vec![Cq::of_node(gateway)],
-        node: Some(NodeStart { server: SERVER, incoming: BytesMut::new() }),
+        node: Some(NodeStart { server: SERVER, paused: None, incoming: BytesMut::new() }),
         queues,
         clock: Arc::new(Clock::new()),
         kept: Some(Kept { files: Vec::new(), begun: vec![(0, 3 * STEP + 70)] }),

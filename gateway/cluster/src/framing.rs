@@ -1,4 +1,5 @@
-//! Frames: one for each commit. A frame says its number and its place, so that old bytes never pass for new ones.
+//! Frames of a file: one for each commit. A frame says its number and its place, so that old bytes never pass for new ones.
+//! So a torn end, behind which nothing good comes, is told from bytes that were spoilt.
 
 /// Each frame begins with these bytes. Two of them are in no text in UTF-8, so no record has them.
 pub const MARK: [u8; 4] = *b"\xffHC\xfe";
@@ -6,7 +7,7 @@ pub const MARK: [u8; 4] = *b"\xffHC\xfe";
 /// The bytes of a frame before its payload: mark, number, place and length, and a checksum over all but the mark.
 const HEAD: usize = 4 + 8 + 8 + 4 + 4;
 
-/// The longest payload.
+/// The longest payload that is read.
 const LONGEST: usize = 1 << 30;
 
 /// A good frame in the bytes of a file.
@@ -30,6 +31,18 @@ fn checksum(head: &[u8], payload: &[u8]) -> u32 {
     sum.update(head);
     sum.update(payload);
     sum.finalize()
+}
+
+/// The bytes of a frame that is to stand at this place. The payload has at most 2^30 bytes, or nobody reads it.
+pub fn encode(number: u64, place: u64, payload: &[u8]) -> Vec<u8> {
+    let mut bytes = Vec::with_capacity(HEAD + payload.len());
+    bytes.extend_from_slice(&MARK);
+    bytes.extend_from_slice(&number.to_be_bytes());
+    bytes.extend_from_slice(&place.to_be_bytes());
+    bytes.extend_from_slice(&(payload.len() as u32).to_be_bytes());
+    bytes.extend_from_slice(&checksum(&bytes[4..24], payload).to_be_bytes());
+    bytes.extend_from_slice(payload);
+    bytes
 }
 
 /// The frame at this place of a file's bytes, if there is a good one.
@@ -58,17 +71,6 @@ pub fn find_higher(bytes: &[u8], place: u64, number: u64) -> Option<u64> {
 #[cfg(test)]
 mod tests {
     use super::*;
-
-    /// The bytes of a frame that stands at this place.
-    fn encode(number: u64, place: u64, payload: &[u8]) -> Vec<u8> {
-        let mut bytes = MARK.to_vec();
-        bytes.extend_from_slice(&number.to_be_bytes());
-        bytes.extend_from_slice(&place.to_be_bytes());
-        bytes.extend_from_slice(&(payload.len() as u32).to_be_bytes());
-        bytes.extend_from_slice(&checksum(&bytes[4..24], payload).to_be_bytes());
-        bytes.extend_from_slice(payload);
-        bytes
-    }
 
     #[test]
     fn a_frame_is_read_at_its_own_place_alone() {

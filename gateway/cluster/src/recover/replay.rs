@@ -1,0 +1,127 @@
+//! Makes the store of a journal: a server is given all of it, and tells the store.
+
+use std::collections::VecDeque;
+use std::sync::mpsc::{channel, Receiver};
+
+use anyhow::{bail, ensure, Context, Result};
+use bytes::Bytes;
+
+use crate::child::{Child, Told};
+use crate::commands::{Command, Response, Standing};
+use crate::journal::{self, Folder, Found, Head};
+
+/// So many requests are on their way to the server.
+const MOST_OPEN: usize = 512;
+
+/// A server that is the only one of its chain.
+struct Server {
+    child: Child,
+    told: Receiver<Told>,
+    responses: VecDeque<Response>,
+}
+
+/// Writes the store of a journal as the first part of another one.
+pub fn write(found: &Found, program: &str, folder: &Folder, head: &Head) -> Result<()> {
+    let mut server = Server::start(program, found.store.is_some())?;
+    let begun = server.load(found)?;
+    ensure!(begun.count == found.base, "cq server has {} entries, and the copy is made of {}", begun.count, found.base);
+    let standing = server.replay(found, begun)?;
+    ensure!(
+        (standing.count, standing.last) == (found.count, found.last),
+        "cq server has {} entries, the last of moment {}, and the journal {} and {}",
+        standing.count,
+        standing.last,
+        found.count,
+        found.last
+    );
+    journal::write_store(folder, head, || server.next_chunk(found.count))
+}
+
+impl Server {
+    fn start(program: &str, has_store: bool) -> Result<Server> {
+        let mut words: Vec<String> = ["server", "--id", "1", "--first", "1"].map(String::from).to_vec();
+        words.extend(has_store.then(|| "--load".into()));
+        let (tell, told) = channel();
+        let child = Child::start(program, &words, move |one| drop(tell.send(one)))?;
+        Ok(Server { child, told, responses: VecDeque::new() })
+    }
+
+    fn give(&self, command: &Command) {
+        self.child.give(command.frame());
+    }
+
+    fn next(&mut self) -> Result<Response> {
+        loop {
+            if let Some(response) = self.responses.pop_front() {
+                return Ok(response);
+            }
+            match self.told.recv().context("cq server is gone")? {
+                Told::Responses(responses) => self.responses.extend(responses),
+                Told::Ended(why) => bail!("cq server is gone: {why}"),
+            }
+        }
+    }
+
+    /// The end of the next answer.
+    fn answer(&mut self) -> Result<Response> {
+        loop {
+            let response = self.next()?;
+            if response.is_last() {
+                return Ok(response);
+            }
+        }
+    }
+
+    fn standing(&mut self) -> Result<Standing> {
+        match self.answer()? {
+            Response::Done(standing) => Ok(standing),
+            Response::Refused(code) | Response::Unread(code) => bail!("cq server refuses what it is given, by {code}"),
+            other => bail!("cq server answers {other:?}"),
+        }
+    }
+
+    /// Gives it the store with which the journal begins, if it does.
+    fn load(&mut self, found: &Found) -> Result<Standing> {
+        if found.store.is_none() {
+            return Ok(Standing::default());
+        }
+        for chunk in found.chunks()? {
+            self.give(&Command::Load(chunk));
+            let answer = self.answer()?;
+            ensure!(answer == Response::Heard, "cq server doesn't take the copy of the store: {answer:?}");
+        }
+        self.give(&Command::Load(Bytes::new()));
+        self.standing()
+    }
+
+    /// Gives it all entries. Says where it stands then.
+    fn replay(&mut self, found: &Found, begun: Standing) -> Result<Standing> {
+        let mut entries = found.entries(1);
+        let (mut standing, mut open) = (begun, 0);
+        loop {
+            let next = entries.next()?;
+            let is_over = next.is_none();
+            if let Some(entry) = next {
+                self.give(&Command::Arrive { stream: 1, clock: entry.moment, request: entry.request });
+                open += 1;
+            }
+            while open >= MOST_OPEN || (is_over && open > 0) {
+                standing = self.standing()?;
+                open -= 1;
+            }
+            if is_over {
+                return Ok(standing);
+            }
+        }
+    }
+
+    /// The next chunk of its store; none behind the last.
+    fn next_chunk(&mut self, count: u64) -> Result<Option<Bytes>> {
+        self.give(&Command::Save);
+        let response = self.next()?;
+        let Response::Saved { count: of, chunk } = response else { bail!("cq server tells no store: {response:?}") };
+        ensure!(of == count, "cq server tells a store of {of} entries, and not of {count}");
+        self.standing()?;
+        Ok((!chunk.is_empty()).then_some(chunk))
+    }
+}

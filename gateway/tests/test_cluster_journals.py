@@ -1,0 +1,179 @@
+"""What nodes of a cluster write down, and what they do where they can't."""
+
+from __future__ import annotations
+
+import json
+import subprocess
+import time
+from pathlib import Path
+
+import pytest
+
+from cluster_journals import Journal, check_journals, folder_of, kill_all
+from cluster_oracle import Run, check
+from cluster_users import Users
+from clusters import NAME, Cluster, has_etcd, run, wait
+from test_cluster import answered, start  # noqa: F401
+
+pytestmark = pytest.mark.skipif(not has_etcd(), reason="etcd isn't there: Debian's etcd-server has it")
+
+KINDS = {"buffered": [], "durable": ["--durable"]}
+
+
+def words(room: Path, *more: str):
+    return lambda number: ["--journal", str(room), *more]
+
+
+@pytest.mark.parametrize("kind", KINDS)
+def test_journals_have_all_that_was_acknowledged_when_all_nodes_are_killed(tmp_path, kind):
+    room = tmp_path / "journals"
+    cluster = Cluster(tmp_path, words=words(room, *KINDS[kind]))
+    try:
+        users = Users(cluster, 1, think=0.002)
+        wait(20, lambda: len(users.records) > 500, "users aren't answered")
+        status = json.loads(run("cluster", "status", *cluster.which("master"), "--json").stdout)
+        assert [server["journal"] for server in status["servers"]] == [kind] * 3
+        kill_all(cluster)
+        users.ends = True
+        users.join(30)
+        check_journals(cluster, room)
+        for server in (1, 2, 3):
+            journal = Journal(folder_of(cluster, server, room))
+            assert journal.chain["members"] == [1, 2, 3] and journal.base == 0
+            for one in users.records:
+                assert one.length <= journal.count(), f"server {server} lacks entry {one.length} of {journal.count()}"
+                entry = journal.words()[one.length - 1][1] if one.length == journal.count() else None
+                assert entry in (None, {"client": one.client, "number": one.number, "ask": one.ask})
+    finally:
+        print(cluster.said())
+        cluster.end()
+
+
+def test_a_journal_ends_by_copies_of_the_store_and_one_that_joins_begins_with_one(start, tmp_path):
+    room = tmp_path / "journals"
+    cluster, users = start(words=words(room, "--journal-size", "20KiB"))
+
+    def copies(server: int) -> list[str]:
+        return [one.name for one in folder_of(cluster, server, room).glob("store.??????")]
+
+    wait(30, lambda: all(copies(server) and "store.000002" not in copies(server) for server in (1, 2, 3)), "there are no second copies")
+    cluster.start_node()
+    wait(20, cluster.settles([1, 2, 3, 4]), "it doesn't become a member")
+    assert copies(4)
+    answered(users)
+    cluster.kill(1)
+    wait(10, cluster.settles([2, 3, 4]), "it isn't detected")
+    answered(users)
+    users.stop()
+    for node in (node for node in cluster.nodes if node.lives()):
+        node.stop()
+    for server in (1, 2, 3, 4):
+        journal = Journal(folder_of(cluster, server, room))
+        assert journal.base > 0 and len(copies(server)) == 1
+        assert all(one.name >= copies(server)[0].replace("store", "entries") for one in journal.segments())
+    assert Journal(folder_of(cluster, 4, room)).chain["members"] == [2, 3, 4]
+    check_journals(cluster, room)
+
+
+@pytest.mark.parametrize("kind", KINDS)
+def test_a_node_whose_disk_is_full_is_given_up_and_the_others_go_on(small_disk, start, tmp_path, kind):
+    full, room = small_disk("4m"), tmp_path / "journals"
+    cluster, users = start(words=lambda number: ["--journal", str(full if number == 2 else room), *KINDS[kind]])
+    node = cluster.node(2)
+    node.may_fail = True
+    fill(full)
+    wait(20, lambda: not node.lives(), "it isn't given up")
+    assert node.process.returncode == 1
+    assert "its journal can't be written, and others go on without it" in node.log.read_text()
+    assert "No space left on device" in node.log.read_text()
+    wait(10, cluster.settles([1, 3]), "the chain doesn't go on")
+    answered(users)
+
+
+def test_the_last_full_server_waits_for_room_on_its_disk(small_disk, start):
+    """Nothing that it was asked is lost, and nothing is answered that isn't in its journal."""
+    room = small_disk("4m")
+    cluster, users = start(size=1, words=words(room, "--durable"))
+    node = cluster.node(1)
+    filler = fill(room)
+    node.logs("the journal can't be written, and nothing leaves this node")
+    before = len(users.records)
+    words_of_status = ["cluster", "status", *cluster.which("master")]
+    why = "server 1 is condemned (its journal can't be written), and no other member is known to have all that was acknowledged"
+    wait(10, lambda: f"the chain waits: {why}" in run(*words_of_status).stdout, "the status says nothing")
+    assert node.lives() and len(users.records) <= before + 8
+    count = Journal(folder_of(cluster, 1, room)).count()
+    assert all(one.length <= count for one in users.records)
+    filler.unlink()
+    node.logs("there is room for the journal again")
+    answered(users)
+    users.stop()
+    node.stop()
+    check_journals(cluster, room)
+
+
+@pytest.fixture
+def hanging(tmp_path, monkeypatch) -> None:
+    """Syncs of files wait for as long as a file `hang` is beside them."""
+    library = tmp_path / "libhang.so"
+    source = Path(__file__).with_name("hanging_disk.rs")
+    compiled = subprocess.run(["rustc", "-O", "--crate-type", "cdylib", "-o", library, source], capture_output=True)
+    assert compiled.returncode == 0, compiled.stderr
+    monkeypatch.setenv("LD_PRELOAD", str(library))
+
+
+def test_a_node_whose_disk_hangs_is_given_up_and_the_others_go_on(hanging, start, tmp_path):
+    room = tmp_path / "journals"
+    cluster, users = start(words=words(room, "--durable"))
+    node = cluster.node(2)
+    node.may_fail = True
+    (folder_of(cluster, 2, room) / "hang").touch()
+    wait(20, lambda: not node.lives(), "it isn't given up")
+    assert node.process.returncode == 1
+    node.logs("the disk doesn't end a write")
+    wait(10, cluster.settles([1, 3]), "the chain doesn't go on")
+    answered(users)
+
+
+def test_nothing_is_answered_that_is_not_on_the_disk(hanging, start, tmp_path):
+    room = tmp_path / "journals"
+    cluster, users = start(size=1, words=words(room, "--durable"))
+    folder = folder_of(cluster, 1, room)
+    (folder / "hang").touch()
+    # By then the disk hangs: what all users ask is written, and nobody is answered.
+    wait(10, lambda: len(users.open) == users.count and Journal(folder).count() > users.records[-1].length, "it doesn't hang")
+    before = len(users.records)
+    time.sleep(1)
+    assert len(users.records) <= before + 1
+    (folder / "hang").unlink()
+    answered(users)
+
+
+def fill(room: Path) -> Path:
+    """Leaves no room on a disk."""
+    filler = room / "filler"
+    with open(filler, "wb", buffering=0) as file:
+        size = 1 << 20
+        while size:
+            try:
+                file.write(bytes(size))
+            except OSError:
+                size //= 2
+    return filler
+
+
+def test_a_journal_that_cannot_be_begun_ends_the_node_before_it_takes_a_number(tmp_path):
+    cluster = Cluster(tmp_path, size=1, masters=0, absent=(1,))
+    try:
+        node = ["node", "--cluster", NAME, "--etcd", cluster.etcd.urls[0], "--listen", "127.0.0.1:0", "--first", "1"]
+        (tmp_path / "file").write_text("kept")
+        done = run(*node, "--journal", str(tmp_path / "file"))
+        assert done.returncode == 1 and "journals can't be kept" in done.stderr
+        assert (tmp_path / "file").read_text() == "kept"
+        assert "--journal" in run(*node, "--durable").stderr
+        assert cluster.etcd.read(f"{cluster.root}/node/") == {}
+        cluster.words = words(tmp_path / "deep" / "journals")
+        wait(10, cluster.start_node(1).look, "it doesn't begin")
+        assert folder_of(cluster, 1, tmp_path / "deep" / "journals").is_dir()
+    finally:
+        cluster.end()
