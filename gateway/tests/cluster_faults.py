@@ -5,6 +5,7 @@ from __future__ import annotations
 import os
 import random
 import signal
+import subprocess
 import time
 
 from cluster_work import Served
@@ -86,12 +87,22 @@ class Faults:
         return self.busy.get(0, 0) > time.monotonic()
 
     def stop_etcd(self) -> None:
-        if not self.etcd_is_away():
-            seconds = self.random.choice([1, 3, 6])
-            self.note("etcd", seconds)
-            self.busy[0] = time.monotonic() + seconds + 1
-            self.cluster.etcd.signal(signal.SIGSTOP)
-            self.after(seconds, lambda: self.cluster.etcd.signal(signal.SIGCONT))
+        """All of it; of three members also the leader alone, or so many that the other one decides nothing."""
+        if self.etcd_is_away():
+            return
+        etcd, seconds = self.cluster.etcd, self.random.choice([1, 3, 6])
+        which, places = "all", list(range(len(etcd.urls)))
+        if len(places) > 1:
+            which = self.random.choice(["all", "leader", "quorum"])
+            leader = etcd.leader() or 0
+            if which == "leader":
+                places = [leader]
+            elif which == "quorum":
+                places, seconds = [place for place in places if place != leader], 10
+        self.note("etcd", which, seconds)
+        self.busy[0] = time.monotonic() + seconds + (1 if which == "all" else 3)
+        etcd.signal(signal.SIGSTOP, places)
+        self.after(seconds, lambda: etcd.signal(signal.SIGCONT, places))
 
     def kill_master(self) -> None:
         place = self.random.randrange(len(self.cluster.masters))
@@ -183,10 +194,51 @@ class GatewayFaults(Faults):
             proxy.cut()
             self.after(seconds, proxy.mend)
 
+    def step_clock(self) -> None:
+        """The wall clock of a node and its gateway is an hour off, for good. Nothing is to follow."""
+        clocks = [node for node in self.cluster.nodes if node.look() and node.lives() and node.clock]
+        if clocks:
+            node, by = self.random.choice(clocks), self.random.choice(["+3600", "-3600", "+0"])
+            self.note("clock", node.server, by)
+            node.clock.step(by)
+
+    def lose_packets(self) -> None:
+        """What comes to a node's port loses packets."""
+        good = self.good()
+        if len(good) > 1:
+            one, seconds, part = self.random.choice(good), self.random.choice([1, 3, 6]), self.random.choice(["0.1", "0.3", "0.6"])
+            rule = Losing(self.cluster.node(one).port, part)
+            if rule.begins():
+                self.note("lose packets", one, part, seconds)
+                for other in good:
+                    self.busy[other] = time.monotonic() + seconds + 4
+                self.after(seconds, rule.ends)
+
     def one(self) -> None:
         ways = [self.kill, self.stop, self.stop_all, self.cut_from_etcd, self.condemn, self.stop_etcd, self.kill_master, self.stop_master,
-                self.kill_young, self.kill_gateway, self.stop_gateway, self.stop_front, self.leave, self.cut_link]
-        self.random.choices(ways, [8, 6, 2, 4, 3, 3, 2, 2, 2, 5, 4, 2, 4, 5])[0]()
+                self.kill_young, self.kill_gateway, self.stop_gateway, self.stop_front, self.leave, self.cut_link, self.step_clock,
+                self.lose_packets]
+        self.random.choices(ways, [8, 6, 2, 4, 3, 4, 2, 2, 2, 5, 4, 2, 4, 5, 3, 4])[0]()
+
+
+class Losing:
+    """A rule of the system by which a part of the packets to a port of this machine is lost, where that may be said."""
+
+    def __init__(self, port: int, part: str) -> None:
+        self.words = ["INPUT", "--protocol", "tcp", "--destination-port", str(port), "--match", "statistic", "--mode", "random",
+                      "--probability", part, "--jump", "DROP"]
+
+    def begins(self) -> bool:
+        return self.say("--append")
+
+    def ends(self) -> None:
+        self.say("--delete")
+
+    def say(self, how: str) -> bool:
+        try:
+            return subprocess.run(["iptables", "--wait", how, *self.words], capture_output=True).returncode == 0
+        except FileNotFoundError:
+            return False
 
 
 def send(process: int, number: int) -> None:
@@ -200,4 +252,4 @@ def send(process: int, number: int) -> None:
 def heals(cluster: Cluster) -> bool:
     chain = cluster.chain()
     living = {node.server for node in cluster.nodes if node.look() and node.lives()}
-    return chain["is_ready"] and len(chain["members"]) >= 3 and set(chain["members"]) <= living and set(chain["members"]) <= set(chain["full"])
+    return chain["is_ready"] and len(chain["members"]) >= cluster.size and set(chain["members"]) <= living and set(chain["members"]) <= set(chain["full"])

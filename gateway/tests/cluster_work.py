@@ -39,11 +39,14 @@ class Served:
         try:
             wait(30, lambda: self.cluster.gateway_acts(1), "no gateway acts")
             for _ in range(fronts):
-                self.fronts.append(Started("--cluster", NAME, "--etcd", ",".join(self.cluster.etcd.urls)))
+                self.add_front()
         except BaseException:
             print(self.cluster.said())
             self.end()
             raise
+
+    def add_front(self) -> None:
+        self.fronts.append(Started("--cluster", NAME, "--etcd", ",".join(self.cluster.etcd.urls)))
         self.front = self.fronts[0]
         self.sqs = self.client()
 
