@@ -318,13 +318,26 @@ async fn begin_kept(
 async fn begin_beside_node(settings: &Settings, tables: (&Arc<Clock>, &Arc<Queues>)) -> Result<Begun> {
     let (clock, queues) = tables;
     let mut image = Image::new(settings.peek);
-    let (mut cq, mut node) = store::take_up_from_node(clock, &mut |chunk| image.feed(chunk)).await?;
+    let mut bytes = 0;
+    let mut take = |chunk: &[u8]| {
+        if bytes == 0 {
+            tracing::info!("the store begins");
+        }
+        bytes += chunk.len();
+        image.feed(chunk)
+    };
+    let (mut cq, mut node) = store::take_up_from_node(clock, &mut take).await?;
+    tracing::info!(bytes, "the store is told");
     let (last, number) = (image.last(), image.largest_number());
     let shard = settings.shards.all().next().context("there is no shard")?;
     // It takes a second for some hundred thousand messages.
     let making = tokio::task::spawn_blocking({
         let queues = queues.clone();
-        move || queues.take_up(shard, image)
+        move || {
+            let made = queues.take_up(shard, image);
+            tracing::info!("the tables are made");
+            made
+        }
     });
     store::wait_beside_node(making, &mut cq, &mut node, clock).await?.context("the store of the head")?;
     clock.go_on_from(last);
@@ -401,6 +414,7 @@ async fn answer(settings: &Settings, started: Started, signals: &mut Signals) ->
     let mut served = tokio::spawn(door.serve(listener, ending));
     admin.health.serves();
     notify_supervisor(sd_notify::NotifyState::Ready);
+    tracing::info!(%url, "the gateway serves");
     say(&format!("listening on {url}"));
     tokio::select! {
         () = signals.wait_for_end(|| Entrance::read_again(&keys, &certificate)) => {}

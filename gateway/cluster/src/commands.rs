@@ -130,6 +130,14 @@ impl Command {
 }
 
 impl Response {
+    /// Why a command was refused, if it was.
+    pub fn refusal(&self) -> Option<u32> {
+        match self {
+            Response::Refused(code) | Response::Unread(code) => Some(*code),
+            _ => None,
+        }
+    }
+
     pub fn frame(&self) -> Vec<u8> {
         match self {
             Response::Put { to, place, piece } => frame(0, |out| {

@@ -1,7 +1,8 @@
 //! What goes between a node and the gateway beside it (docs/CLUSTER.md, "The gateway's pipe").
 //!
-//! The node starts the gateway once its server is the head, with one end of a socket as its standard input. It tells the
-//! time and the store, and from then on the gateway asks and the node tells answers. Either ends with the other.
+//! The node starts the gateway once its server is the head, or may soon be, with one end of a socket as its standard input. It
+//! tells the time and the store. From when it says that the gateway may ask, that one asks and the node tells answers. Either
+//! ends with the other.
 
 use bytes::Bytes;
 
@@ -13,9 +14,9 @@ pub enum FromNode {
     /// The cluster's time at a moment since the system's start, both in milliseconds. It is the first thing told, and comes
     /// again each half second: the gateway answers each by `Alive`.
     Time { time: u64, since_start: u64 },
-    /// The next chunk of the store.
+    /// The next chunk of the store, or an empty one behind the last: the tables may be made.
     Chunk { chunk: Bytes },
-    /// That was all of the store, as this server has it. From now on the gateway may ask.
+    /// The store that was told is all that this server has, and that one is the head. From now on the gateway may ask.
     Stored { server: u32 },
     /// An answer, as a server put it. It may come twice, for what was asked twice.
     Answer { message: Bytes },

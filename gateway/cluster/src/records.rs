@@ -77,6 +77,12 @@ impl Chain {
     pub fn has_place(&self, server: u32) -> bool {
         self.servers().any(|one| one == server)
     }
+
+    /// The members that stand before that server: all, where it is none.
+    pub fn before(&self, server: u32) -> &[u32] {
+        let place = self.members.iter().position(|member| *member == server);
+        &self.members[..place.unwrap_or(self.members.len())]
+    }
 }
 
 /// A line of the master's log.

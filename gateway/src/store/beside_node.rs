@@ -46,7 +46,8 @@ fn socket() -> std::io::Result<UnixStream> {
     UnixStream::from_std(socket)
 }
 
-/// Waits for work that takes long, and tells the node meanwhile that this gateway works. Nothing was asked by then.
+/// Waits for work that takes long, and until the node's server is the head, and tells the node meanwhile that this gateway
+/// works. Nothing was asked by then.
 pub async fn wait_for<T>(
     work: JoinHandle<T>,
     cq: &mut Cq,
@@ -55,18 +56,20 @@ pub async fn wait_for<T>(
 ) -> Result<T, BesideNodeError> {
     let mut cutter = Cutter { buffer: std::mem::take(&mut node.incoming) };
     tokio::pin!(work);
-    let done = loop {
+    let mut done = None;
+    while done.is_none() || node.server == 0 {
         tokio::select! {
-            done = &mut work => break done.map_err(|_| BesideNodeError::Failed)?,
-            told = next(cq, &mut cutter) => {
-                if let FromNode::Time { time, since_start } = told? {
-                    say_alive(cq, clock, time, since_start).await?;
-                }
-            }
+            made = &mut work, if done.is_none() => done = Some(made.map_err(|_| BesideNodeError::Failed)?),
+            told = next(cq, &mut cutter) => match told? {
+                FromNode::Time { time, since_start } => say_alive(cq, clock, time, since_start).await?,
+                FromNode::Stored { server } => node.server = server,
+                // It is about nothing that this gateway asked, or comes again.
+                _ => {}
+            },
         }
-    };
+    }
     node.incoming = cutter.buffer;
-    Ok(done)
+    done.ok_or(BesideNodeError::Failed)
 }
 
 async fn say_alive(cq: &mut Cq, clock: &Clock, time: u64, since_start: u64) -> Result<(), CqError> {
@@ -85,11 +88,14 @@ async fn take_up_from(
     loop {
         match next(&mut cq, &mut cutter).await? {
             FromNode::Time { time, since_start } => say_alive(&mut cq, clock, time, since_start).await?,
+            FromNode::Chunk { chunk } if chunk.is_empty() => {
+                return Ok((cq, NodeStart { server: 0, paused, incoming: cutter.buffer }))
+            }
             FromNode::Chunk { chunk } => take(&chunk)?,
             FromNode::Paused { last, begun } => paused = Some((last, begun)),
-            FromNode::Stored { server } => return Ok((cq, NodeStart { server, paused, incoming: cutter.buffer })),
             // They are about what an earlier gateway asked.
             FromNode::Answer { .. } | FromNode::Acts | FromNode::Refused { .. } | FromNode::Memory { .. } => {}
+            FromNode::Stored { .. } => return Err(Malformed("the store isn't whole").into()),
         }
     }
 }
@@ -118,7 +124,7 @@ mod tests {
     #[tokio::test]
     async fn the_node_is_told_that_the_gateway_works_while_its_tables_are_made() {
         let (gateway, node) = UnixStream::pair().unwrap();
-        let (clock, mut start) = (Clock::new(), NodeStart { server: 1, paused: None, incoming: Default::default() });
+        let (clock, mut start) = (Clock::new(), NodeStart { server: 0, paused: None, incoming: Default::default() });
         let (reading, mut writing) = node.into_split();
         let mut reading = Frames::new(reading, FRAME_LIMIT);
         let (done, is_done) = std::sync::mpsc::channel::<()>();
@@ -131,20 +137,48 @@ mod tests {
                 assert_eq!(FromGateway::read(heard), Ok(FromGateway::Alive { time }));
             }
             done.send(()).unwrap();
+            // Its server isn't the head yet, and the time is told on.
+            writing.write_all(&FromNode::Time { time: 9, since_start: 0 }.bytes()).await.unwrap();
+            let heard = tokio::time::timeout(Duration::from_secs(10), reading.next()).await.unwrap().unwrap();
+            assert_eq!(FromGateway::read(heard), Ok(FromGateway::Alive { time: 9 }));
+            writing.write_all(&FromNode::Stored { server: 3 }.bytes()).await.unwrap();
         };
         let mut cq = Cq::of_node(gateway);
         let (made, ()) = tokio::join!(wait_for(work, &mut cq, &mut start, &clock), node);
-        assert!(made.unwrap());
+        assert!(made.unwrap() && start.server == 3);
+    }
+
+    #[tokio::test]
+    async fn a_node_that_becomes_the_head_while_tables_are_made_waits_for_them() {
+        let (gateway, mut node) = UnixStream::pair().unwrap();
+        let (clock, mut start) = (Clock::new(), NodeStart { server: 0, paused: None, incoming: Default::default() });
+        let (done, is_done) = std::sync::mpsc::channel::<()>();
+        let work = tokio::task::spawn_blocking(move || is_done.recv().is_ok());
+        node.write_all(&FromNode::Stored { server: 2 }.bytes()).await.unwrap();
+        let mut cq = Cq::of_node(gateway);
+        let (made, ()) = tokio::join!(wait_for(work, &mut cq, &mut start, &clock), async {
+            tokio::time::sleep(Duration::from_millis(20)).await;
+            done.send(()).unwrap();
+        });
+        assert!(made.unwrap() && start.server == 2);
+    }
+
+    #[tokio::test]
+    async fn a_store_that_ends_without_its_last_chunk_is_none() {
+        let (gateway, mut node) = UnixStream::pair().unwrap();
+        node.write_all(&FromNode::Stored { server: 1 }.bytes()).await.unwrap();
+        assert!(take_up_from(gateway, &Clock::new(), &mut |_| Ok(())).await.is_err());
     }
 
     #[tokio::test]
     async fn that_the_chain_stood_still_is_told_ahead_of_the_store() {
         let (gateway, mut node) = UnixStream::pair().unwrap();
         let paused = FromNode::Paused { last: 5, begun: 9 };
-        for told in [FromNode::Time { time: 9, since_start: 0 }, paused, FromNode::Stored { server: 1 }] {
+        for told in [FromNode::Time { time: 9, since_start: 0 }, paused, FromNode::Chunk { chunk: Default::default() }]
+        {
             node.write_all(&told.bytes()).await.unwrap();
         }
         let (_cq, start) = take_up_from(gateway, &Clock::new(), &mut |_| Ok(())).await.unwrap();
-        assert_eq!((start.server, start.paused), (1, Some((5, 9))));
+        assert_eq!((start.server, start.paused), (0, Some((5, 9))));
     }
 }

@@ -121,9 +121,9 @@ impl Outlet {
         waiting < self.most && self.frames.send(bytes.into()).is_ok()
     }
 
-    /// Whether all was written that was sent.
-    pub fn is_idle(&self) -> bool {
-        self.waiting.load(Ordering::Relaxed) == 0
+    /// How many bytes weren't written yet.
+    pub fn waiting(&self) -> usize {
+        self.waiting.load(Ordering::Relaxed)
     }
 }
 

@@ -137,6 +137,8 @@ pub struct Core {
     ticked: Instant,
     /// When clients were told where the server stands.
     said: Instant,
+    /// When this process went on that had been stopped, or began.
+    awake: Instant,
     end: Option<End>,
 }
 
@@ -149,6 +151,7 @@ impl Core {
         keeping: Option<Keeping<Waits>>,
         paused: Option<FromNode>,
     ) -> Result<Core> {
+        let id = node.id;
         Ok(Core {
             node,
             child,
@@ -164,7 +167,7 @@ impl Core {
             inboxes: BTreeMap::new(),
             waiting: BTreeMap::new(),
             streams: Streams::default(),
-            gateway: Beside::new(gateway, paused),
+            gateway: Beside::new(id, gateway, paused),
             trace: trace.map(Trace::begin).transpose()?,
             keeping,
             told: Instant::now(),
@@ -173,6 +176,7 @@ impl Core {
             late_joiner: None,
             ticked: Instant::now(),
             said: Instant::now(),
+            awake: Instant::now(),
             end: None,
         })
     }
@@ -270,7 +274,7 @@ impl Core {
         let Some(open) = self.open.pop_front() else {
             return self.fail("cq server answers what nobody asked for".into());
         };
-        if refusal(&response).is_none() {
+        if response.refusal().is_none() {
             if let Err(error) = self.write_down(&open, &response) {
                 return self.fail(format!("the trace can't be written: {error}"));
             }
@@ -286,7 +290,7 @@ impl Core {
 
     /// What comes of an answer.
     fn take_effect(&mut self, open: Open, response: Response) {
-        let refused = refusal(&response);
+        let refused = response.refusal();
         if let Response::Done(standing) = response {
             self.stand(standing);
         }
@@ -297,7 +301,9 @@ impl Core {
                 // What waits for a server that is gone is thrown away.
                 Response::Waiting(Party::Server(server)) if self.gone.contains(&server) => {}
                 Response::Waiting(party) => drop(self.waiting.entry(party).or_insert(Wait::Now)),
-                Response::Saved { chunk, .. } => self.gateway.saved(self.node.id, chunk, &mut self.streams),
+                Response::Saved { count, chunk } => {
+                    self.gateway.saved(count, chunk, &self.standing, &mut self.streams);
+                }
                 _ => {}
             }
         }
@@ -401,6 +407,7 @@ impl Core {
         }
         self.streams.stand(&standing);
         self.gateway.stands(self.node.id, before.is_acting, standing.is_acting);
+        self.gateway.open(&standing, &mut self.streams);
         if standing.is_head && !before.is_head {
             self.gateway.keep(&self.node);
             self.hear_others();
@@ -475,7 +482,7 @@ impl Core {
         let is_copying = self.keeping.as_ref().is_some_and(Keeping::is_copying);
         if is_for_journal {
             self.give(What::Copy, &Command::Save);
-        } else if !is_copying && self.gateway.next_save() {
+        } else if !is_copying && self.gateway.next_save(&self.standing) {
             self.give(What::Save, &Command::Save);
         }
     }
@@ -624,14 +631,19 @@ impl Core {
         true
     }
 
-    /// Whether that server stands before this one.
+    /// Whether that server stands right before this one.
     fn precedes(&self, from: u32) -> bool {
-        let Some(chain) = &self.chain else { return false };
-        let before = match chain.members.iter().position(|member| *member == self.node.id) {
-            Some(place) => place.checked_sub(1).and_then(|before| chain.members.get(before)),
-            None => chain.members.last(),
+        self.chain.as_ref().is_some_and(|chain| chain.before(self.node.id).last() == Some(&from))
+    }
+
+    /// Whether all servers that stand before this one are gone, or silent for a while. It is a guess.
+    fn may_become_head(&self) -> bool {
+        let is_silent = |server: &u32| {
+            let heard = self.peers.get(server).and_then(|peer| peer.heard);
+            self.gone.contains(server) || heard.is_some_and(|heard| heard.max(self.awake).elapsed() > HEARD)
         };
-        before == Some(&from)
+        let chain = self.chain.as_ref().filter(|chain| chain.members.contains(&self.node.id));
+        chain.is_some_and(|chain| chain.before(self.node.id).iter().all(is_silent))
     }
 
     // ---- what the log says
@@ -703,7 +715,7 @@ impl Core {
     fn tick(&mut self) {
         if self.ticked.elapsed() > STOPPED {
             // This process was stopped, and perhaps the server with it.
-            self.told = Instant::now();
+            (self.told, self.awake) = (Instant::now(), Instant::now());
             self.keeping.iter_mut().for_each(Keeping::begin_again);
         }
         self.ticked = Instant::now();
@@ -727,6 +739,7 @@ impl Core {
         let servers = self.chain.iter().flat_map(Chain::servers);
         let bound = self.node.least_memory(servers);
         self.gateway.bound_memory(bound);
+        self.gateway.foresee(self.may_become_head(), &self.node, &mut self.streams);
         self.gateway.tick(&self.node.time_for_gateway(), &mut self.streams);
         self.report();
     }
@@ -778,13 +791,5 @@ impl Core {
             late_joiner: self.late_joiner,
             gateway: self.gateway.phase(),
         };
-    }
-}
-
-/// Why a command was refused, if it was.
-fn refusal(response: &Response) -> Option<u32> {
-    match response {
-        Response::Refused(code) | Response::Unread(code) => Some(*code),
-        _ => None,
     }
 }

@@ -140,7 +140,7 @@ pub struct Start {
 
 /// What is known of a node at the start.
 pub struct NodeStart {
-    /// Its server's number.
+    /// Its server's number, or 0 as long as that isn't known to be the head.
     pub server: u32,
     /// The moments of the last entry before the chain stood still and was recovered, and when it went on; nothing where it
     /// wasn't.

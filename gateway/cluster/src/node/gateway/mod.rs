@@ -3,6 +3,10 @@
 //! The node starts a gateway once its server is the head (`process`), tells it the store, and hears for it what the servers of
 //! the chain answer (`hearing`). A gateway's life begins with a copy of the store, and the copy is asked for behind all that
 //! an earlier life gave to the server: nothing of that one comes later. A gateway's end or silence never ends its node.
+//!
+//! Where the server may soon be the head, a gateway is started and told the store ahead of that. That is a guess, and costs
+//! nothing but time where it is wrong: the gateway may ask only once the server is the head, and only if that one has no entry
+//! more than the copy.
 
 mod hearing;
 mod process;
@@ -19,6 +23,7 @@ use tokio::sync::oneshot;
 use tokio::task::JoinHandle;
 
 use crate::addresses::Place;
+use crate::commands::Standing;
 use crate::pipe::{FromGateway, FromNode};
 use crate::records::GatewayPhase;
 use crate::wire::Frame;
@@ -36,7 +41,10 @@ const MOST_ASKED: usize = 1024;
 /// So often a gateway is told the time.
 const TIME: Duration = Duration::from_millis(500);
 
-/// A gateway that has the store and answers none of so many times, one after the other, doesn't work. They are counted, since
+/// So long the start of a process may take.
+const STARTING: Duration = Duration::from_secs(1);
+
+/// A gateway that may ask and answers none of so many times, one after the other, doesn't work. They are counted, since
 /// this process may have stood still itself.
 const MOST_UNANSWERED: u32 = 10;
 
@@ -72,12 +80,28 @@ pub enum Heard {
     Ended,
 }
 
+/// So many bytes of the store may wait for a gateway before the next chunk is asked for: while it reads some, the server
+/// writes more.
+const MOST_CHUNKS: usize = 16 << 20;
+
+/// Whether a gateway is kept, or started again and again.
+#[derive(Clone, Copy, Default, PartialEq, Eq)]
+enum Kept {
+    #[default]
+    No,
+    /// As long as the server may soon be the head.
+    Ahead,
+    ForGood,
+}
+
 /// How much of the store a gateway has.
 #[derive(Clone, Copy, PartialEq, Eq)]
 enum Store {
     None,
     Some,
     All,
+    /// All of it, and it may ask.
+    Open,
 }
 
 /// One process of a gateway. It is ended when this is dropped.
@@ -86,11 +110,13 @@ struct Life {
     outlet: Outlet,
     _wanted: oneshot::Sender<()>,
     store: Store,
-    /// Whose requests the streams have, once it has all of the store.
+    /// How many entries the copy has that it is told, where the server wasn't the head when that was begun.
+    ahead: Option<u64>,
+    /// Whose requests the streams have, once it may ask.
     client: Option<u64>,
     /// When it was told the time.
     timed: Instant,
-    /// So many times were told since it said that it works, or had all of the store.
+    /// So many times were told since it said that it works, or may ask.
     unanswered: u32,
     works: bool,
 }
@@ -120,11 +146,17 @@ struct Ear {
 /// All that a node's task knows of the gateway beside it.
 #[derive(Default)]
 pub struct Beside {
+    /// The node's own server.
+    server: u32,
     settings: Option<Settings>,
-    /// Whether a process is kept, or started again and again.
-    is_kept: bool,
+    kept: Kept,
+    /// What starts processes, and since when.
+    keeper: Option<JoinHandle<()>>,
+    started: Option<Instant>,
     life: Option<Life>,
     copy: Copying,
+    /// The server wasn't the head when the copy was begun.
+    is_copy_ahead: bool,
     listening: BTreeMap<u32, JoinHandle<()>>,
     ears: BTreeMap<u32, Ear>,
     /// The server that began to act last, and acts still.
@@ -141,16 +173,46 @@ pub use process::test;
 
 impl Beside {
     /// `paused` is told to each gateway ahead of the store, if it is there.
-    pub fn new(settings: Option<Settings>, paused: Option<FromNode>) -> Beside {
-        Beside { settings, paused, ..Beside::default() }
+    pub fn new(server: u32, settings: Option<Settings>, paused: Option<FromNode>) -> Beside {
+        Beside { server, settings, paused, ..Beside::default() }
     }
 
     /// The server is the head: a gateway is kept from now on.
     pub fn keep(&mut self, node: &Arc<Shared>) {
-        if let Some(settings) = self.settings.clone().filter(|_| !self.is_kept) {
-            self.is_kept = true;
-            tokio::spawn(process::keep(node.clone(), settings));
+        if self.kept == Kept::ForGood || self.settings.is_none() {
+            return;
         }
+        // Where one was to be there by now and isn't, another try needn't wait for its turn.
+        let is_late = self.started.map_or(true, |started| started.elapsed() > STARTING);
+        if self.life.is_none() && is_late {
+            self.start(node);
+        }
+        self.kept = Kept::ForGood;
+    }
+
+    /// The server may soon be the head, or isn't likely to be any more. Before it is the head this has no effect on others.
+    pub fn foresee(&mut self, is_likely: bool, node: &Arc<Shared>, streams: &mut Streams) {
+        match self.kept {
+            Kept::No if is_likely && self.settings.is_some() => {
+                tracing::info!("this server may soon be the head: a gateway is started");
+                self.start(node);
+                self.kept = Kept::Ahead;
+            }
+            Kept::Ahead if !is_likely => {
+                tracing::info!("a server that stands before this one is heard again: the gateway is ended");
+                self.keeper.take().iter().for_each(JoinHandle::abort);
+                (self.kept, self.started) = (Kept::No, None);
+                self.end(streams);
+            }
+            _ => {}
+        }
+    }
+
+    fn start(&mut self, node: &Arc<Shared>) {
+        let Some(settings) = self.settings.clone() else { return };
+        self.started = Some(Instant::now());
+        let keeper = tokio::spawn(process::keep(node.clone(), settings));
+        self.keeper.replace(keeper).iter().for_each(JoinHandle::abort);
     }
 
     /// Listens to these servers, and to no others. Nobody listens where no gateway is kept.
@@ -160,7 +222,7 @@ impl Beside {
             self.listening.remove(&server).iter().for_each(JoinHandle::abort);
             self.lose(server);
         }
-        for server in servers.iter().filter(|_| self.is_kept) {
+        for server in servers.iter().filter(|_| self.kept == Kept::ForGood) {
             let listen = || tokio::spawn(hearing::listen(*server, node.clone()));
             self.listening.entry(*server).or_insert_with(listen);
         }
@@ -169,11 +231,13 @@ impl Beside {
     /// How far the gateway is.
     pub fn phase(&self) -> Option<GatewayPhase> {
         let works = self.life.as_ref().is_some_and(|life| life.works);
-        self.is_kept.then_some(if works { GatewayPhase::Acts } else { GatewayPhase::Begins })
+        (self.kept == Kept::ForGood).then_some(if works { GatewayPhase::Acts } else { GatewayPhase::Begins })
     }
 
     pub fn happen(&mut self, happening: Happening, streams: &mut Streams) {
         match happening {
+            // Nobody wants one any more that was started ahead.
+            Happening::Begins { .. } if self.kept == Kept::No => {}
             Happening::Begins { life, outlet, wanted } => {
                 self.end(streams);
                 self.begin(life, outlet, wanted);
@@ -202,6 +266,7 @@ impl Beside {
             outlet,
             _wanted: wanted,
             store: Store::None,
+            ahead: None,
             client: None,
             timed: Instant::now(),
             unanswered: 0,
@@ -228,7 +293,7 @@ impl Beside {
         match told {
             FromGateway::Alive { .. } => {
                 life.unanswered = 0;
-                life.works = life.store == Store::All;
+                life.works = life.store == Store::Open;
             }
             FromGateway::Query { query } => self.query(query),
             FromGateway::Request { stream, clock, request } => {
@@ -251,7 +316,7 @@ impl Beside {
         if life.timed.elapsed() >= TIME {
             life.timed = Instant::now();
             life.outlet.send_bytes(time.bytes());
-            if life.store == Store::All {
+            if life.store == Store::Open {
                 life.outlet.send_bytes(FromNode::Memory { bound: self.memory }.bytes());
                 life.unanswered += 1;
             }
@@ -268,9 +333,9 @@ impl Beside {
         self.memory = bound;
     }
 
-    /// Tells the gateway something. Before it has the store nothing of this is about what it asked.
+    /// Tells the gateway something. Before it may ask nothing of this is about what it asked.
     fn tell(&mut self, frame: &FromNode) {
-        if let Some(life) = self.life.as_ref().filter(|life| life.store == Store::All) {
+        if let Some(life) = self.life.as_ref().filter(|life| life.store == Store::Open) {
             // One that is gone, or doesn't read, is given up by others.
             let _ = life.outlet.send_bytes(frame.bytes());
         }
@@ -284,40 +349,65 @@ impl Beside {
         is_wanted || matches!(self.copy, Copying::Asked(_) | Copying::Begun(_))
     }
 
-    /// Whether the server is to be asked for the next chunk of a copy. If so it counts as asked for.
-    pub fn next_save(&mut self) -> bool {
+    /// Whether the server, which stands there, is to be asked for the next chunk of a copy. If so it counts as asked for.
+    pub fn next_save(&mut self, standing: &Standing) -> bool {
         let life = self.life.as_ref();
         let asked = match self.copy {
             Copying::No => life.filter(|life| life.store == Store::None).map(|life| life.number),
             // A copy whose gateway is gone is asked for to its end all the same.
             Copying::Begun(of) => {
-                let is_ready = life.map_or(true, |life| life.number != of || life.outlet.is_idle());
+                let has_room = |life: &Life| life.outlet.waiting() < MOST_CHUNKS;
+                let is_ready = life.map_or(true, |life| life.number != of || has_room(life));
                 is_ready.then_some(of)
             }
             Copying::Asked(_) | Copying::Later => None,
         };
         if let Some(life) = asked {
+            if self.copy == Copying::No {
+                self.is_copy_ahead = !standing.is_head;
+            }
             self.copy = Copying::Asked(life);
         }
         asked.is_some()
     }
 
-    /// A chunk comes of the node's own server. An empty one is the end of the copy.
-    pub fn saved(&mut self, server: u32, chunk: Bytes, streams: &mut Streams) {
+    /// A chunk comes of the node's own server, of a copy of so many entries. An empty one is the end of the copy.
+    pub fn saved(&mut self, count: u64, chunk: Bytes, standing: &Standing, streams: &mut Streams) {
         let Copying::Asked(of) = self.copy else { return };
         let is_last = chunk.is_empty();
         self.copy = if is_last { Copying::No } else { Copying::Begun(of) };
+        let ahead = self.is_copy_ahead.then_some(count);
         let Some(life) = self.life.as_mut().filter(|life| life.number == of) else { return };
-        let frame = if is_last { FromNode::Stored { server } } else { FromNode::Chunk { chunk } };
-        let is_there = life.outlet.send_bytes(frame.bytes());
+        life.ahead = ahead;
         life.store = if is_last { Store::All } else { Store::Some };
-        if is_last {
-            let client = next_connection();
-            life.client = Some(client);
-            streams.enter(client, life.outlet.clone());
+        if !life.outlet.send_bytes(FromNode::Chunk { chunk }.bytes()) {
+            return self.give_up("it isn't told the store any more", streams);
         }
+        self.open(standing, streams);
+    }
+
+    /// The node's own server stands there. If that is the head, a gateway that has all of the store may ask from now on: all
+    /// further entries are what it asks. One that was told a copy ahead is ended if the server has taken an entry since.
+    pub fn open(&mut self, standing: &Standing, streams: &mut Streams) {
+        let Some(life) = self.life.as_mut().filter(|life| life.store != Store::Open) else { return };
+        if life.ahead.is_some_and(|count| count != standing.count) {
+            return self.give_up("the server has more entries than the copy that it was told ahead", streams);
+        }
+        if life.store != Store::All || !standing.is_head {
+            return;
+        }
+        tracing::info!(
+            life = life.number,
+            entries = standing.count,
+            ahead = life.ahead.is_some(),
+            "the gateway may ask"
+        );
+        let client = next_connection();
+        (life.store, life.client) = (Store::Open, Some(client));
+        let is_there = life.outlet.send_bytes(FromNode::Stored { server: self.server }.bytes());
+        streams.enter(client, life.outlet.clone());
         if !is_there {
-            self.give_up("it isn't told the store any more", streams);
+            self.give_up("it isn't told that it may ask", streams);
         }
     }
 

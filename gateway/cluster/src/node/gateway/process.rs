@@ -311,7 +311,7 @@ mod tests {
         let Some(Happening::Begins { life: 5, outlet, wanted }) = heard.recv().await else {
             panic!("it doesn't begin")
         };
-        assert!(matches!(heard.recv().await, Some(Happening::Wrote)) && outlet.is_idle());
+        assert!(matches!(heard.recv().await, Some(Happening::Wrote)) && outlet.waiting() == 0);
         // What is for it of a client's frames.
         outlet.send(&Frame::Standing { server: 1, is_head: true, is_acting: true });
         outlet.send(&Frame::Refused { stream: 4, code: 20, request: None });

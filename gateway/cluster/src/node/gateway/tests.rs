@@ -10,7 +10,16 @@ use crate::commands::Standing;
 
 const HEAD: Standing = Standing { count: 0, acked: 0, last: 0, is_head: true, is_acting: false, is_full: true };
 
+/// A server that isn't the head.
+const MIDDLE: Standing = Standing { is_head: false, ..HEAD };
+
 const TIMED: FromNode = FromNode::Time { time: 7, since_start: 3 };
+
+/// That was all of the store.
+const ALL: FromNode = FromNode::Chunk { chunk: Bytes::new() };
+
+/// The gateway may ask.
+const OPEN: FromNode = FromNode::Stored { server: 1 };
 
 /// A gateway's end of the pipe.
 struct Far {
@@ -35,10 +44,20 @@ impl Far {
     }
 }
 
+/// With a gateway that is kept, though nothing starts one.
+fn kept() -> Beside {
+    Beside { server: 1, kept: Kept::ForGood, ..Beside::default() }
+}
+
+/// The head tells the next chunk of a copy.
+fn save(beside: &mut Beside, chunk: Bytes, streams: &mut Streams) {
+    beside.saved(HEAD.count, chunk, &HEAD, streams);
+}
+
 fn begin(beside: &mut Beside, streams: &mut Streams, life: u64) -> Far {
     let ((frames, told), waiting) = (unbounded_channel(), Arc::default());
     let (wanted, is_wanted) = oneshot::channel();
-    let outlet = Outlet::to_another(CLIENTS, frames, Arc::clone(&waiting), 1 << 20, process::as_gateway_hears);
+    let outlet = Outlet::to_another(CLIENTS, frames, Arc::clone(&waiting), 64 << 20, process::as_gateway_hears);
     beside.happen(Happening::Begins { life, outlet, wanted }, streams);
     Far { frames: told, waiting, is_wanted }
 }
@@ -49,11 +68,11 @@ fn chunk(text: &'static str) -> Bytes {
 
 /// A gateway that has all of the store.
 fn begun(streams: &mut Streams) -> (Beside, Far) {
-    let mut beside = Beside::default();
+    let mut beside = kept();
     let mut far = begin(&mut beside, streams, 1);
-    assert!(beside.next_save());
-    beside.saved(1, Bytes::new(), streams);
-    assert_eq!(far.heard(), [FromNode::Stored { server: 1 }]);
+    assert!(beside.next_save(&HEAD));
+    save(&mut beside, Bytes::new(), streams);
+    assert_eq!(far.heard(), [ALL, OPEN]);
     (beside, far)
 }
 
@@ -72,18 +91,21 @@ fn stamped(text: &'static str) -> Work {
 }
 
 #[test]
-fn a_chunk_is_asked_for_once_the_one_before_was_written() {
-    let (mut beside, mut streams) = (Beside::default(), Streams::default());
-    assert!(!beside.next_save(), "there is no gateway");
+fn chunks_are_asked_for_one_by_one_as_long_as_few_wait() {
+    let (mut beside, mut streams) = (kept(), Streams::default());
+    assert!(!beside.next_save(&HEAD), "there is no gateway");
     let mut far = begin(&mut beside, &mut streams, 1);
-    assert!(beside.next_save() && !beside.next_save());
-    beside.saved(1, chunk("one"), &mut streams);
-    assert!(!beside.next_save(), "the first one isn't written yet");
-    assert_eq!(far.heard(), [FromNode::Chunk { chunk: chunk("one") }]);
-    assert!(beside.next_save());
-    beside.saved(1, Bytes::new(), &mut streams);
-    assert_eq!(far.heard(), [FromNode::Stored { server: 1 }]);
-    assert!(!beside.next_save(), "it has all of the store");
+    assert!(beside.next_save(&HEAD) && !beside.next_save(&HEAD));
+    save(&mut beside, chunk("one"), &mut streams);
+    assert!(beside.next_save(&HEAD) && !beside.next_save(&HEAD));
+    let long = Bytes::from(vec![0; MOST_CHUNKS]);
+    save(&mut beside, long.clone(), &mut streams);
+    assert!(!beside.next_save(&HEAD), "too much waits");
+    assert_eq!(far.heard(), [FromNode::Chunk { chunk: chunk("one") }, FromNode::Chunk { chunk: long }]);
+    assert!(beside.next_save(&HEAD));
+    save(&mut beside, Bytes::new(), &mut streams);
+    assert_eq!(far.heard(), [ALL, OPEN]);
+    assert!(!beside.next_save(&HEAD), "it has all of the store");
 }
 
 #[test]
@@ -99,18 +121,18 @@ fn requests_of_an_earlier_gateway_are_thrown_away_and_its_copy_is_asked_for_to_i
     assert!(first.is_ended());
     streams.answered(client, true, None);
     assert_eq!(next(&mut streams), None, "what waits isn't given");
-    assert!(beside.next_save());
-    beside.saved(1, chunk("one"), &mut streams);
+    assert!(beside.next_save(&HEAD));
+    save(&mut beside, chunk("one"), &mut streams);
     let mut third = begin(&mut beside, &mut streams, 3);
     for rest in [chunk("two"), Bytes::new()] {
-        assert!(beside.next_save(), "nobody waits for what nobody is told");
-        beside.saved(1, rest, &mut streams);
+        assert!(beside.next_save(&HEAD), "nobody waits for what nobody is told");
+        save(&mut beside, rest, &mut streams);
     }
     assert_eq!(second.heard(), [FromNode::Chunk { chunk: chunk("one") }]);
     assert_eq!(third.heard(), []);
-    assert!(beside.next_save(), "another copy begins");
-    beside.saved(1, Bytes::new(), &mut streams);
-    assert_eq!(third.heard(), [FromNode::Stored { server: 1 }]);
+    assert!(beside.next_save(&HEAD), "another copy begins");
+    save(&mut beside, Bytes::new(), &mut streams);
+    assert_eq!(third.heard(), [ALL, OPEN]);
     let late = FromGateway::Request { stream: 9, clock: 5, request: chunk("c") };
     beside.happen(Happening::Told { life: 1, told: late }, &mut streams);
     beside.happen(Happening::Ended { life: 1 }, &mut streams);
@@ -121,20 +143,20 @@ fn requests_of_an_earlier_gateway_are_thrown_away_and_its_copy_is_asked_for_to_i
 
 #[test]
 fn a_copy_for_which_there_is_no_memory_begins_again() {
-    let (mut beside, mut streams) = (Beside::default(), Streams::default());
+    let (mut beside, mut streams) = (kept(), Streams::default());
     let mut far = begin(&mut beside, &mut streams, 1);
-    assert!(beside.next_save());
+    assert!(beside.next_save(&HEAD));
     beside.not_saved(20, &mut streams);
-    assert!(!beside.next_save(), "not at once");
+    assert!(!beside.next_save(&HEAD), "not at once");
     beside.tick(&TIMED, &mut streams);
-    assert!(beside.next_save() && !far.is_ended());
-    beside.saved(1, chunk("one"), &mut streams);
+    assert!(beside.next_save(&HEAD) && !far.is_ended());
+    save(&mut beside, chunk("one"), &mut streams);
     far.heard();
-    assert!(beside.next_save());
+    assert!(beside.next_save(&HEAD));
     beside.not_saved(20, &mut streams);
     assert!(far.is_ended(), "it has a part of a store that nobody has any more");
     beside.tick(&TIMED, &mut streams);
-    assert!(!beside.next_save());
+    assert!(!beside.next_save(&HEAD));
 }
 
 #[test]
@@ -155,7 +177,7 @@ fn a_refusal_is_told_once_and_nothing_behind_it_is_given() {
 
 #[test]
 fn who_asks_before_it_has_the_store_is_ended() {
-    let (mut beside, mut streams) = (Beside::default(), Streams::default());
+    let (mut beside, mut streams) = (kept(), Streams::default());
     let mut far = begin(&mut beside, &mut streams, 1);
     ask(&mut beside, &mut streams, 1, "a");
     assert!(far.is_ended() && next(&mut streams).is_none());
@@ -171,8 +193,6 @@ fn who_says_nothing_is_ended_once_it_has_the_store() {
         }
         beside.tick(&TIMED, streams);
     };
-    assert!(beside.phase().is_none(), "none is kept");
-    beside.is_kept = true;
     beside.bound_memory(7);
     assert_eq!(beside.phase(), Some(GatewayPhase::Begins));
     for round in 1..2 * MOST_UNANSWERED {
@@ -190,6 +210,97 @@ fn who_says_nothing_is_ended_once_it_has_the_store() {
     }
     assert!(far.is_ended());
     assert_eq!(beside.phase(), Some(GatewayPhase::Begins));
+}
+
+// ---- ahead of the head
+
+/// A server stands there, with so many entries.
+fn at(count: u64, standing: Standing) -> Standing {
+    Standing { count, ..standing }
+}
+
+/// A gateway that has a copy of five entries, of a server that isn't the head.
+fn told_ahead(streams: &mut Streams) -> (Beside, Far) {
+    let mut beside = Beside { kept: Kept::Ahead, ..kept() };
+    let mut far = begin(&mut beside, streams, 1);
+    for chunk in [chunk("one"), Bytes::new()] {
+        assert!(beside.next_save(&MIDDLE));
+        beside.saved(5, chunk, &at(5, MIDDLE), streams);
+    }
+    assert_eq!(far.heard(), [FromNode::Chunk { chunk: chunk("one") }, ALL]);
+    (beside, far)
+}
+
+#[test]
+fn one_that_was_told_ahead_may_ask_once_the_server_is_the_head() {
+    let mut streams = Streams::default();
+    let (mut beside, mut far) = told_ahead(&mut streams);
+    assert!(!beside.next_save(&MIDDLE) && beside.phase().is_none());
+    beside.open(&at(5, MIDDLE), &mut streams);
+    assert_eq!(far.heard(), []);
+    beside.open(&at(5, HEAD), &mut streams);
+    assert_eq!(far.heard(), [OPEN]);
+    beside.open(&at(6, HEAD), &mut streams);
+    ask(&mut beside, &mut streams, 1, "a");
+    assert!(far.heard().is_empty() && next(&mut streams).is_some() && !far.is_ended());
+}
+
+#[test]
+fn one_that_was_told_ahead_may_ask_nothing_before() {
+    let mut streams = Streams::default();
+    let (mut beside, mut far) = told_ahead(&mut streams);
+    ask(&mut beside, &mut streams, 1, "a");
+    assert!(far.is_ended() && next(&mut streams).is_none());
+}
+
+#[test]
+fn a_copy_that_was_told_ahead_counts_only_as_long_as_the_server_has_no_entry_more() {
+    for standing in [at(6, HEAD), at(6, MIDDLE)] {
+        let mut streams = Streams::default();
+        let (mut beside, mut far) = told_ahead(&mut streams);
+        beside.open(&standing, &mut streams);
+        assert!(far.is_ended() && far.heard().is_empty());
+        // The next one is told another copy.
+        let mut far = begin(&mut beside, &mut streams, 2);
+        assert!(beside.next_save(&at(6, HEAD)));
+        beside.saved(6, Bytes::new(), &at(6, HEAD), &mut streams);
+        assert_eq!(far.heard(), [ALL, OPEN]);
+    }
+}
+
+#[test]
+fn an_entry_that_comes_while_a_copy_is_told_ahead_ends_its_gateway_and_the_copy_goes_to_its_end() {
+    let mut streams = Streams::default();
+    let mut beside = Beside { kept: Kept::Ahead, ..kept() };
+    let mut far = begin(&mut beside, &mut streams, 1);
+    assert!(beside.next_save(&MIDDLE));
+    beside.saved(5, chunk("one"), &at(5, MIDDLE), &mut streams);
+    assert!(beside.next_save(&MIDDLE) && !far.is_ended());
+    beside.saved(5, chunk("two"), &at(6, MIDDLE), &mut streams);
+    assert!(far.is_ended());
+    let mut far = begin(&mut beside, &mut streams, 2);
+    assert!(beside.next_save(&HEAD), "the copy of the first one is asked for to its end");
+    beside.saved(5, Bytes::new(), &at(6, HEAD), &mut streams);
+    assert!(beside.next_save(&HEAD));
+    beside.saved(6, Bytes::new(), &at(6, HEAD), &mut streams);
+    assert_eq!(far.heard(), [ALL, OPEN]);
+}
+
+#[test]
+fn a_copy_that_is_begun_at_the_head_counts_whatever_others_ask_meanwhile() {
+    let mut streams = Streams::default();
+    let mut beside = kept();
+    let mut far = begin(&mut beside, &mut streams, 1);
+    assert!(beside.next_save(&at(5, HEAD)));
+    beside.saved(5, Bytes::new(), &at(6, HEAD), &mut streams);
+    assert_eq!(far.heard(), [ALL, OPEN]);
+}
+
+#[test]
+fn one_that_nobody_wants_any_more_doesnt_begin() {
+    let (mut beside, mut streams) = (Beside::default(), Streams::default());
+    let mut far = begin(&mut beside, &mut streams, 1);
+    assert!(far.is_ended() && !beside.needs_copies());
 }
 
 // ---- what it hears of other servers
@@ -247,7 +358,7 @@ async fn it_is_told_so_again_behind_a_broken_connection() {
 
 #[tokio::test]
 async fn nothing_of_servers_is_told_before_the_store() {
-    let (mut beside, mut streams) = (Beside::default(), Streams::default());
+    let (mut beside, mut streams) = (kept(), Streams::default());
     let mut far = begin(&mut beside, &mut streams, 1);
     let _asked = listen(&mut beside, 3, 13);
     stand(&mut beside, 3, 13, true);
@@ -283,7 +394,7 @@ async fn a_query_goes_to_the_server_that_acts_or_is_lost() {
 #[test]
 fn each_gateway_is_told_first_that_the_chain_was_recovered() {
     let paused = FromNode::Paused { last: 5, begun: 9 };
-    let (mut beside, mut streams) = (Beside::new(None, Some(paused.clone())), Streams::default());
+    let (mut beside, mut streams) = (Beside { paused: Some(paused.clone()), ..kept() }, Streams::default());
     for life in [1, 2] {
         let mut far = begin(&mut beside, &mut streams, life);
         assert_eq!(far.heard(), std::slice::from_ref(&paused));
@@ -292,15 +403,15 @@ fn each_gateway_is_told_first_that_the_chain_was_recovered() {
 
 #[test]
 fn a_copy_is_needed_until_it_is_told_to_its_end() {
-    let (mut beside, mut streams) = (Beside::default(), Streams::default());
+    let (mut beside, mut streams) = (kept(), Streams::default());
     assert!(!beside.needs_copies());
     let _far = begin(&mut beside, &mut streams, 1);
-    assert!(beside.needs_copies() && beside.next_save());
-    beside.saved(1, chunk("one"), &mut streams);
+    assert!(beside.needs_copies() && beside.next_save(&HEAD));
+    save(&mut beside, chunk("one"), &mut streams);
     beside.happen(Happening::Ended { life: 1 }, &mut streams);
     assert!(beside.needs_copies(), "it is asked for to its end");
-    assert!(beside.next_save());
-    beside.saved(1, Bytes::new(), &mut streams);
+    assert!(beside.next_save(&HEAD));
+    save(&mut beside, Bytes::new(), &mut streams);
     assert!(!beside.needs_copies());
     let (beside, _far) = begun(&mut streams);
     assert!(!beside.needs_copies());
