@@ -71,10 +71,12 @@ impl View<'_> {
         let mut why = None;
         for server in self.roster.line_of_servers() {
             let is_condemned = self.condemned.contains(&server);
-            if !is_condemned && !self.silence.is_silent(server, self.roster, self.now) {
+            let is_silent = self.silence.is_silent(server, self.roster, self.now);
+            if !is_condemned && !is_silent {
                 continue;
             }
-            if let Some(reason) = self.why_kept(server) {
+            let may_hang = || (!is_silent).then(|| self.why_waited_for(server)).flatten();
+            if let Some(reason) = self.why_kept(server).or_else(may_hang) {
                 let is = if is_condemned { "condemned" } else { "silent" };
                 why = Some(format!("server {server} is {is}, and {reason}"));
                 continue;
@@ -129,12 +131,25 @@ impl View<'_> {
         if self.roster.joiner == Some(server) {
             return None;
         }
-        let others: Vec<u32> = self.roster.known_full().into_iter().filter(|other| *other != server).collect();
+        let others = self.others(server);
         if others.is_empty() {
             return Some("no other member is known to have all that was acknowledged");
         }
         let is_any_fresh = others.iter().any(|other| self.silence.is_fresh(*other, self.now));
         (!is_any_fresh).then_some("no other member that has all that was acknowledged beats")
+    }
+
+    /// Why a server that beats isn't given up for its disk: where those of all others hang as well, nothing is won by that.
+    fn why_waited_for(&self, server: u32) -> Option<&'static str> {
+        let hangs = |server: &u32| self.silence.disk_hangs(*server);
+        let others = self.others(server).into_iter().filter(|other| self.silence.is_fresh(*other, self.now));
+        let hang_all = hangs(&server) && others.into_iter().all(|other| hangs(&other));
+        hang_all.then_some("the disk of no other member ends a write either")
+    }
+
+    /// The other members that are known to have all that was acknowledged.
+    fn others(&self, server: u32) -> Vec<u32> {
+        self.roster.known_full().into_iter().filter(|other| *other != server).collect()
     }
 
     /// Whoever is condemned now isn't given up, or isn't in the chain.
@@ -159,7 +174,7 @@ impl View<'_> {
 #[cfg(test)]
 mod tests {
     use super::*;
-    use crate::records::Beat;
+    use crate::records::{Beat, DISK_HANGS};
 
     const HALF: Duration = Duration::from_millis(500);
 
@@ -175,14 +190,16 @@ mod tests {
         deaf: Vec<(u32, u32)>,
         /// Whom a front reaches.
         reached: Vec<u32>,
+        /// Whose disk hangs.
+        hanging: Vec<u32>,
     }
 
     impl Candidate {
         fn new(size: u32) -> Candidate {
             let roster = Roster::of_first_chain(size);
-            let (letters, condemned, deaf, reached) = (Vec::new(), BTreeSet::new(), Vec::new(), Vec::new());
-            let silence = Silence::default();
-            Candidate { roster, silence, now: Duration::ZERO, revision: 0, letters, condemned, deaf, reached }
+            let (letters, condemned, silence) = (Vec::new(), BTreeSet::new(), Silence::default());
+            let (deaf, reached, hanging) = (Vec::new(), Vec::new(), Vec::new());
+            Candidate { roster, silence, now: Duration::ZERO, revision: 0, letters, condemned, deaf, reached, hanging }
         }
 
         /// So many looks, at each of which these servers have beaten; the others have beaten before.
@@ -196,7 +213,8 @@ mod tests {
                     |server: u32| beat.iter().copied().filter(|other| !self.deaf.contains(&(server, *other))).collect();
                 let with_beat = |(server, revision)| {
                     let (joins, fronts) = (joins == Some(server), self.reached.contains(&server).into());
-                    (server, revision, Beat { joins, hears: hears(server), fronts, ..Beat::default() })
+                    let condemned = self.hanging.contains(&server).then(|| DISK_HANGS.into());
+                    (server, revision, Beat { joins, hears: hears(server), fronts, condemned, ..Beat::default() })
                 };
                 self.silence.look(beats.map(with_beat).collect(), &self.roster, self.now);
             }
@@ -259,6 +277,30 @@ mod tests {
         assert_eq!(decision, Decision::Spare(1));
         assert!(why.unwrap().contains("server 1 is condemned, and no other member that has all"));
         candidate.look(2, &[1, 2], &[], None);
+        assert_eq!(candidate.line(), Some(Line::Detect { server: 1 }));
+    }
+
+    #[test]
+    fn nobody_is_given_up_for_a_disk_that_hangs_where_all_others_hang_too() {
+        let mut candidate = Candidate::new(3);
+        candidate.hanging = vec![1, 2, 3];
+        candidate.condemned = [1, 2, 3].into();
+        candidate.look(3, &[1, 2, 3], &[], None);
+        let (decision, why) = candidate.decide();
+        assert_eq!(decision, Decision::Spare(1));
+        assert!(why.unwrap().contains("the disk of no other member ends a write either"));
+        candidate.hanging = vec![1, 2];
+        candidate.condemned = [1, 2].into();
+        candidate.look(1, &[1, 2, 3], &[], None);
+        assert_eq!(candidate.line(), Some(Line::Detect { server: 1 }));
+        // One that is condemned for something else is given up all the same, and so is one that is silent.
+        candidate.hanging = vec![2, 3];
+        candidate.condemned = [1].into();
+        candidate.look(1, &[1, 2, 3], &[], None);
+        assert_eq!(candidate.line(), Some(Line::Detect { server: 1 }));
+        candidate.hanging = vec![1, 2, 3];
+        candidate.condemned.clear();
+        candidate.look(6, &[2, 3], &[1], None);
         assert_eq!(candidate.line(), Some(Line::Detect { server: 1 }));
     }
 

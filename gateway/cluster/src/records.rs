@@ -122,6 +122,9 @@ impl From<Piece> for String {
     }
 }
 
+/// Why the master is asked to do without a server whose disk hangs.
+pub const DISK_HANGS: &str = "its disk doesn't end a write";
+
 /// What a node says of itself each half second.
 #[derive(Clone, Debug, Default, PartialEq, Eq, Serialize, Deserialize)]
 pub struct Beat {

@@ -6,7 +6,7 @@ use std::collections::BTreeMap;
 use std::time::Duration;
 
 use crate::cut::{Cut, Unheard};
-use crate::records::Beat;
+use crate::records::{Beat, DISK_HANGS};
 use crate::roster::Roster;
 use crate::unreached::Unreached;
 
@@ -133,6 +133,11 @@ impl Silence {
         let others = roster.members.iter().copied().filter(|member| *member != server);
         roster.orders_for(server) <= seen.beat.took
             && others.into_iter().any(|other| self.is_fresh(other, now) && hears_it(other))
+    }
+
+    /// Whether a server says that its disk hangs.
+    pub fn disk_hangs(&self, server: u32) -> bool {
+        self.seen.get(&server).is_some_and(|seen| seen.beat.condemned.as_deref() == Some(DISK_HANGS))
     }
 
     /// The revision of a server's beat; 0 if it was never there.

@@ -11,12 +11,12 @@ use bytes::Bytes;
 
 use crate::commands::Standing;
 use crate::journal::{self, Entry, Folder, Head, Known, Record, Writer, Written, LONGEST_BATCH, VERSION};
-use crate::records::{Chain, Cluster};
+use crate::records::{Chain, Cluster, DISK_HANGS};
 
 use super::Event;
 
 /// A disk that ends no write for so long doesn't work.
-const HANGING: Duration = Duration::from_secs(5);
+const HANGING: Duration = Duration::from_secs(2);
 
 /// A piece with an entry for a server that stands behind (docs/WIRE.md, "A message in pieces"): the version, this byte, the
 /// entry's place, and the entry.
@@ -282,7 +282,7 @@ impl<W> Keeping<W> {
         let hangs = self.given > self.written && self.moved.elapsed() > HANGING;
         match &self.trouble {
             Some(why) => Some(("its journal can't be written", why)),
-            None => hangs.then_some(("its disk doesn't end a write", "the disk doesn't end a write")),
+            None => hangs.then_some((DISK_HANGS, "the disk doesn't end a write")),
         }
     }
 
@@ -510,6 +510,24 @@ mod tests {
         assert!(tested.keeping.next_copy(false));
         tested.keeping.not_copied();
         assert!(!tested.keeping.is_copying());
+    }
+
+    #[test]
+    fn a_disk_that_ends_no_write_for_two_seconds_is_a_fault_until_it_does() {
+        let mut tested = begin(1 << 20);
+        let long_ago = |seconds| Instant::now().checked_sub(Duration::from_secs(seconds)).unwrap();
+        tested.entry();
+        tested.keeping.wait("of the entry");
+        tested.keeping.flush();
+        tested.keeping.moved = long_ago(1);
+        assert_eq!(tested.keeping.fault(), None);
+        tested.keeping.moved = long_ago(3);
+        assert_eq!(tested.keeping.fault(), Some((DISK_HANGS, "the disk doesn't end a write")));
+        tested.keeping.begin_again();
+        assert_eq!(tested.keeping.fault(), None, "this process was stopped itself");
+        tested.next();
+        tested.keeping.moved = long_ago(3);
+        assert_eq!(tested.keeping.fault(), None, "nothing is to be written");
     }
 
     #[test]
