@@ -8,7 +8,7 @@ use bytes::Bytes;
 use thiserror::Error;
 
 use super::{Entry, Folder, Head, Known, Record, VERSION};
-use crate::framing;
+use crate::framing::{self, FileFrames};
 use crate::parts::Reader;
 
 /// Bytes that were spoilt: something good is behind them.
@@ -207,8 +207,8 @@ impl Found {
 
     /// The chunks of its store, in order.
     pub fn chunks(&self) -> io::Result<Chunks> {
-        let bytes = self.store.as_deref().map(read).transpose()?;
-        Ok(Chunks { bytes: bytes.unwrap_or_default().into(), place: 0 })
+        let frames = self.store.as_deref().map(open).transpose()?;
+        Ok(Chunks { frames, ahead: Vec::new().into_iter() })
     }
 }
 
@@ -262,36 +262,45 @@ fn entries_of(segment: &Segment) -> io::Result<Vec<Entry>> {
     Ok(entries)
 }
 
-/// The chunks of a store.
+/// The chunks of a store. A part of it is in memory at a time.
 pub struct Chunks {
-    bytes: Bytes,
-    place: u64,
+    frames: Option<FileFrames>,
+    /// What is left of the last frame.
+    ahead: std::vec::IntoIter<Record>,
 }
 
-impl Iterator for Chunks {
-    type Item = Bytes;
-
-    fn next(&mut self) -> Option<Bytes> {
+impl Chunks {
+    /// The next one; none behind the last.
+    pub fn next(&mut self) -> io::Result<Option<Bytes>> {
         loop {
-            let frame = framing::read(&self.bytes, self.place)?;
-            self.place = frame.end();
-            for record in Record::read_all(self.bytes.slice_ref(frame.payload)).ok()? {
-                if let Record::Chunk(chunk) = record {
-                    return Some(chunk);
-                }
+            if let Some(chunk) = self.ahead.find_map(chunk_of) {
+                return Ok(Some(chunk));
             }
+            let Some(frame) = self.frames.as_mut().map_or(Ok(None), FileFrames::next)? else { return Ok(None) };
+            let malformed = |malformed| io::Error::new(io::ErrorKind::InvalidData, malformed);
+            self.ahead = Record::read_all(Bytes::copy_from_slice(frame.payload)).map_err(malformed)?.into_iter();
         }
+    }
+}
+
+fn chunk_of(record: Record) -> Option<Bytes> {
+    match record {
+        Record::Chunk(chunk) => Some(chunk),
+        _ => None,
     }
 }
 
 /// The head of a store, and the moment of its last entry. The whole of it has to be good.
 fn read_store(path: &Path) -> Result<(Head, u64), Unusable> {
-    let bytes = Bytes::from(read(path)?);
-    let (mut place, mut number) = (0, 0);
+    let (mut frames, mut number) = (open(path)?, 0);
     let (mut head, mut start, mut is_whole) = (None, None, false);
     let spoilt = |place| Unusable::Store { file: path.into(), place };
-    while let Some(frame) = framing::read(&bytes, place).filter(|frame| frame.number == number + 1) {
-        for record in Record::read_all(bytes.slice_ref(frame.payload)).map_err(|_| spoilt(place))? {
+    while let Some(frame) = super::about(path, frames.next())? {
+        let place = frame.place;
+        if frame.number != number + 1 {
+            return Err(spoilt(place));
+        }
+        for record in Record::read_all(Bytes::copy_from_slice(frame.payload)).map_err(|_| spoilt(place))? {
             match record {
                 Record::Head(one) => head = Some(one),
                 Record::Chunk(chunk) => start = start.or_else(|| start_of(&chunk)),
@@ -299,15 +308,14 @@ fn read_store(path: &Path) -> Result<(Head, u64), Unusable> {
                 Record::Entry(_) | Record::Known(_) => return Err(spoilt(place)),
             }
         }
-        number = frame.number;
-        place = frame.end();
+        number += 1;
     }
     match (head, start) {
-        (Some(head), Some((count, last))) if is_whole && place == bytes.len() as u64 && count == head.count => {
+        (Some(head), Some((count, last))) if is_whole && frames.is_at_end() && count == head.count => {
             test_version(path, &head)?;
             Ok((head, last))
         }
-        _ => Err(spoilt(place)),
+        _ => Err(spoilt(frames.place())),
     }
 }
 
@@ -333,6 +341,10 @@ fn test_version(path: &Path, head: &Head) -> Result<(), Unusable> {
         VERSION => Ok(()),
         found => Err(Unusable::OtherVersion { file: path.into(), found }),
     }
+}
+
+fn open(path: &Path) -> io::Result<FileFrames> {
+    super::about(path, FileFrames::open(path))
 }
 
 fn read(path: &Path) -> io::Result<Vec<u8>> {

@@ -196,7 +196,9 @@ fn a_copy_takes_the_place_of_what_was_before_and_the_log_is_known_behind_it() {
     let found = Found::read(&folder).unwrap();
     assert_eq!((found.base, found.count, found.last, &found.known), (5, 10, 1010, &known));
     assert_eq!(all(&found, 1), expected(6..=10));
-    assert_eq!(found.chunks().unwrap().collect::<Vec<_>>(), [chunk(5), Bytes::from_static(b"more")]);
+    let mut chunks = found.chunks().unwrap();
+    let next: Vec<_> = (0..3).map(|_| chunks.next().unwrap()).collect();
+    assert_eq!(next, [Some(chunk(5)), Some(Bytes::from_static(b"more")), None]);
     assert_eq!((folder.parts("entries").unwrap(), folder.parts("store").unwrap()), (vec![2], vec![2]));
     fs::remove_file(folder.entries(2)).unwrap();
     assert_eq!(Found::read(&folder).unwrap().count, 5, "what is behind the copy is gone");

@@ -12,7 +12,8 @@ use super::Event;
 
 /// Gives the server the store of a journal, before it is given anything else. Says where it stands then.
 pub async fn load(child: &Child, heard: &mut UnboundedReceiver<Event>, found: &Found) -> Result<Standing> {
-    for chunk in found.chunks()? {
+    let mut chunks = found.chunks()?;
+    while let Some(chunk) = chunks.next()? {
         if give(child, heard, chunk).await?.is_some() {
             bail!("cq server has the store before its end");
         }

@@ -85,7 +85,8 @@ impl Server {
         if found.store.is_none() {
             return Ok(Standing::default());
         }
-        for chunk in found.chunks()? {
+        let mut chunks = found.chunks()?;
+        while let Some(chunk) = chunks.next()? {
             self.give(&Command::Load(chunk));
             let answer = self.answer()?;
             ensure!(answer == Response::Heard, "cq server doesn't take the copy of the store: {answer:?}");
