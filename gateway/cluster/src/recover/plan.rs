@@ -262,3 +262,6 @@ fn first_difference(one: &Found, other: &Found) -> Result<Option<u64>> {
     }
     Ok(None)
 }
+
+#[cfg(test)]
+mod tests;
