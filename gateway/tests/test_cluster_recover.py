@@ -4,6 +4,7 @@ from __future__ import annotations
 
 import itertools
 import json
+import re
 import shutil
 import signal
 import struct
@@ -15,8 +16,8 @@ from typing import Any
 
 import pytest
 
-from cluster_journals import (ENTRY, Journal, acts, begin_again, folder_of, frame, frames_of, kill_all, recover,
-                              recovered)
+from cluster_journals import (ENTRY, Journal, acts, begin_again, folder_of, frame, frames_of, kill_all, records_of,
+                              recover, recovered)
 from cluster_users import Users
 from cluster_work import UNANSWERED, Served, arn, whole
 from clusters import NAME, Cluster, has_etcd, run, wait
@@ -355,3 +356,49 @@ def test_a_node_of_a_recovered_cluster_needs_what_was_recovered(lost, tmp_path):
     assert "isn't whole, or damaged at byte" in run(*node, "--journal", str(new)).stderr
     store.write_bytes(good)
     begin_again(lost.cluster, new)
+
+
+DAY = 24 * 3_600_000
+
+
+def make_older(folder: Path, by: int) -> None:
+    """All entries of a journal are of earlier moments, by so many milliseconds."""
+    for file in folder.glob("entries.??????"):
+        written = b""
+        for number, _, payload in frames_of(file.read_bytes()):
+            records = [written_record(kind, what, by) for kind, what in records_of(payload)]
+            written += frame(number, len(written), b"".join(records))
+        file.write_bytes(written)
+
+
+def written_record(kind: int, what: Any, by: int) -> bytes:
+    if kind != ENTRY:
+        return struct.pack("<BI", kind, len(what)) + what
+    moment, request = what
+    return struct.pack("<BQI", kind, moment - by, len(request)) + request
+
+
+def test_how_long_the_chain_stood_still_is_said_by_a_later_head_where_the_first_one_could_not(tmp_path):
+    """Of the ten days a day counts. The node that knew of them at its start is gone before a gateway acted, and so is the one that
+    was there with it."""
+    lost = Lost(tmp_path, size=1)
+    cluster = lost.cluster
+    try:
+        lost.kill()
+        make_older(lost.folder(1), 10 * DAY)
+        recovered(cluster, [lost.room], tmp_path / "new")
+        begin_again(cluster, tmp_path / "new")
+        cluster.start_node()
+        wait(20, cluster.settles([1, 2]), "it doesn't become a member")
+        cluster.kill(1)
+        wait(20, cluster.settles([2]), "it isn't detected")
+        cluster.gateways = True
+        cluster.start_node()
+        wait(20, cluster.settles([2, 3]), "it doesn't become a member")
+        cluster.kill(2)
+        wait(20, lambda: cluster.gateway_acts(3), "no gateway acts")
+        [uncounted] = re.findall(r"the clock is far ahead of the last record: (\d+) ms of it", cluster.node(3).log.read_text())
+        assert 9 * DAY <= int(uncounted) < 9 * DAY + 600_000
+    finally:
+        print(cluster.said())
+        lost.end()

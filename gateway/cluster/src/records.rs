@@ -185,6 +185,18 @@ pub struct Registration {
     /// How it keeps a journal, if it does.
     #[serde(default, skip_serializing_if = "Option::is_none")]
     pub journal: Option<JournalKind>,
+    /// Of the server with which a recovered cluster began: how long the cluster stood still.
+    #[serde(default, skip_serializing_if = "Option::is_none")]
+    pub paused: Option<Pause>,
+}
+
+/// Between which moments a cluster stood still that was recovered, in milliseconds of its time.
+#[derive(Clone, Copy, Debug, PartialEq, Eq, Serialize, Deserialize)]
+pub struct Pause {
+    /// That of the last entry before.
+    pub last: u64,
+    /// When the chain went on.
+    pub begun: u64,
 }
 
 /// When a journal is on the disk.
@@ -457,13 +469,16 @@ mod tests {
     #[test]
     fn a_node_without_a_gateway_says_nothing_of_one() {
         let address = "127.0.0.1:7001".parse().unwrap();
-        let without =
-            Registration { nonce: "n".into(), address, gateway: None, certificate: None, memory: 0, journal: None };
+        let nonce = "n".into();
+        let (gateway, certificate, memory, journal, paused) = Default::default();
+        let without = Registration { nonce, address, gateway, certificate, memory, journal, paused };
         assert_eq!(text(&without), r#"{"nonce":"n","address":"127.0.0.1:7001"}"#);
         let certificate = Some(Fingerprint::of(&rustls::Certificate(vec![])));
         let with = Registration { gateway: Some(address), certificate, ..without.clone() };
         assert!(text(&with).ends_with(r#"7852b855"}"#), "{}", text(&with));
-        for one in [without, with] {
+        let first = Registration { paused: Some(Pause { last: 3, begun: 9 }), ..without.clone() };
+        assert!(text(&first).ends_with(r#""paused":{"last":3,"begun":9}}"#), "{}", text(&first));
+        for one in [without, with, first] {
             assert_eq!(serde_json::from_str::<Registration>(&text(&one)).unwrap(), one);
         }
         let beat = Beat { gateway: Some(GatewayPhase::Acts), ..Beat::default() };

@@ -17,7 +17,6 @@ use crate::commands::{Command, Message, Party, Place, Response, Standing, NO_MEM
 use crate::journal::Written;
 use crate::link::Link;
 use crate::lock;
-use crate::pipe::FromNode;
 use crate::records::Chain;
 use crate::wire::Frame;
 
@@ -149,9 +148,8 @@ impl Core {
         gateway: Option<gateway::Settings>,
         trace: Option<&Path>,
         keeping: Option<Keeping<Waits>>,
-        paused: Option<FromNode>,
     ) -> Result<Core> {
-        let id = node.id;
+        let gateway = Beside::new(node.id, gateway, node.pause());
         Ok(Core {
             node,
             child,
@@ -167,7 +165,7 @@ impl Core {
             inboxes: BTreeMap::new(),
             waiting: BTreeMap::new(),
             streams: Streams::default(),
-            gateway: Beside::new(id, gateway, paused),
+            gateway,
             trace: trace.map(Trace::begin).transpose()?,
             keeping,
             told: Instant::now(),
@@ -739,6 +737,7 @@ impl Core {
         let servers = self.chain.iter().flat_map(Chain::servers);
         let bound = self.node.least_memory(servers);
         self.gateway.bound_memory(bound);
+        self.gateway.know_pause(self.node.pause());
         self.gateway.foresee(self.may_become_head(), &self.node, &mut self.streams);
         self.gateway.tick(&self.node.time_for_gateway(), &mut self.streams);
         self.report();

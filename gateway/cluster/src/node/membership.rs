@@ -12,7 +12,7 @@ use crate::etcd::{Entry, Guard, Operation};
 use crate::records::{self, last_number, Beat, Chain, Piece, Registration};
 use crate::{lock, memory};
 
-use super::{Event, Report, Shared};
+use super::{Event, Report, Shared, FIRST};
 
 /// So often a node beats.
 const BEAT: Duration = Duration::from_millis(500);
@@ -135,9 +135,11 @@ impl Membership {
         Ok(!lock(&node.letters).is_empty() || self.unknown().iter().any(is_new))
     }
 
-    /// Servers of the chain, and others to which there are links, whose addresses aren't known.
+    /// Servers of the chain, and others to which there are links, whose addresses aren't known. Of a cluster that was recovered
+    /// each node has to know what its first one says, which may be gone.
     fn unknown(&self) -> Vec<u32> {
         let mut servers: BTreeSet<u32> = lock(&self.node.linked).clone();
+        servers.extend(self.node.cluster.settings.recovered.as_ref().map(|_| FIRST));
         if let Some(chain) = &self.chain {
             servers.extend(chain.members.iter().chain(&chain.joiner));
         }

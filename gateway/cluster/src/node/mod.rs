@@ -31,7 +31,7 @@ use crate::commands::Standing;
 use crate::etcd::{Guard, Operation};
 use crate::journal::{self, Folder, Written};
 use crate::pipe::FromNode;
-use crate::records::{self, random_name, Chain, Cluster, GatewayPhase, JournalKind, Registration};
+use crate::records::{self, random_name, Chain, Cluster, GatewayPhase, JournalKind, Pause, Registration};
 use crate::wire::{About, Frame};
 use crate::{lock, say};
 
@@ -40,6 +40,9 @@ use self::core::Core;
 use self::fronts::Fronts;
 use self::keeping::Keeping;
 use self::streams::Work;
+
+/// With this server a cluster begins that was recovered.
+const FIRST: u32 = 1;
 
 /// How a node begins.
 #[derive(Clone, Copy, Debug, PartialEq, Eq)]
@@ -188,6 +191,12 @@ impl Shared {
         lock(&self.registrations).get(&server).cloned()
     }
 
+    /// What gateways are told of how long a recovered cluster stood still, as far as that is known.
+    fn pause(&self) -> Option<FromNode> {
+        let Pause { last, begun } = self.registration(FIRST)?.paused?;
+        Some(FromNode::Paused { last, begun })
+    }
+
     /// With what a link to a server begins.
     pub fn greeting(&self, to: u32) -> Frame {
         Frame::Link { about: self.about(), from: self.id, nonce: self.nonce.clone(), to, gone: self.all_gone() }
@@ -243,13 +252,13 @@ pub async fn run(cluster: Cluster, settings: Settings) -> Result<End> {
         false => JournalKind::Buffered,
     };
     let (memory, journal) = (settings.limits.memory, settings.journal.as_ref().map(kind));
-    let registration = Registration { nonce: nonce.clone(), address, gateway, certificate, memory, journal };
+    let (clock, paused) = begin_time(loaded.as_ref().map(|(_, standing)| standing));
+    let registration = Registration { nonce: nonce.clone(), address, gateway, certificate, memory, journal, paused };
     let id = register(&cluster, settings.beginning, &registration).await?;
     let (child, loaded) = match loaded {
         Some((child, standing)) => (child, Some(standing)),
         None => (start_child(&cluster, id, &settings, events.clone())?, None),
     };
-    let (clock, paused) = begin_time(loaded.as_ref());
     let tell = events.clone();
     let tell = move |event| drop(tell.send(event));
     let count = loaded.map(|standing| standing.count);
@@ -264,7 +273,7 @@ pub async fn run(cluster: Cluster, settings: Settings) -> Result<End> {
         events,
         clock: Mutex::new(clock),
         gone: Mutex::default(),
-        registrations: Mutex::default(),
+        registrations: Mutex::new([(id, registration)].into()),
         linked: Mutex::default(),
         letters: Mutex::default(),
         report: Mutex::default(),
@@ -276,7 +285,7 @@ pub async fn run(cluster: Cluster, settings: Settings) -> Result<End> {
     let found = if address == local { String::new() } else { format!(" and is found at {address}") };
     say(&format!("server {id} listens on {local}{found}"));
     tracing::info!(server = id, %address, child = child.id(), "a node begins");
-    let core = Core::new(node.clone(), child, settings.gateway, settings.trace.as_deref(), keeping, paused)?;
+    let core = Core::new(node.clone(), child, settings.gateway, settings.trace.as_deref(), keeping)?;
     for kind in [SignalKind::terminate(), SignalKind::interrupt()] {
         tokio::spawn(hear_signals(signal(kind)?, node.clone()));
     }
@@ -286,13 +295,13 @@ pub async fn run(cluster: Cluster, settings: Settings) -> Result<End> {
     Ok(core.run(heard).await)
 }
 
-/// The time, and what gateways are told of it, where the server begins with a store that was recovered.
-fn begin_time(loaded: Option<&Standing>) -> (Clock, Option<FromNode>) {
+/// The time, and how long the cluster stood still where the server begins with a store that was recovered.
+fn begin_time(loaded: Option<&Standing>) -> (Clock, Option<Pause>) {
     let mut clock = Clock::default();
     let paused = loaded.map(|standing| {
         let since_start = clock::since_start();
         clock.go_on_from(standing.last, clock::wall(), since_start);
-        FromNode::Paused { last: standing.last, begun: clock.now(since_start) }
+        Pause { last: standing.last, begun: clock.now(since_start) }
     });
     (clock, paused)
 }

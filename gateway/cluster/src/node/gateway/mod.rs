@@ -328,6 +328,12 @@ impl Beside {
         }
     }
 
+    /// How long the cluster stood still before it was recovered, as far as that is known by now. Each gateway is told so at its
+    /// start: the first one that acts writes it into the book.
+    pub fn know_pause(&mut self, paused: Option<FromNode>) {
+        self.paused = paused.or(self.paused.take());
+    }
+
     /// Messages may use so many bytes at each server. A gateway is told so with the time.
     pub fn bound_memory(&mut self, bound: u64) {
         self.memory = bound;
