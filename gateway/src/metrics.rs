@@ -26,6 +26,7 @@ pub struct Metrics {
     open: IntGauge,
     memory: IntGauge,
     memory_bound: IntGauge,
+    disk_short: IntGauge,
     lacked_room: IntCounter,
     restarts: IntCounter,
     answering: IntGauge,
@@ -118,6 +119,10 @@ impl Metrics {
             open: gauge("hobbychair_open_asks", "Asks that the store hasn't answered yet.")?,
             memory: gauge("hobbychair_memory_used_bytes", "Bytes that messages and deduplication ids use.")?,
             memory_bound: gauge("hobbychair_memory_bound_bytes", "The bound of that; 0 if there is none.")?,
+            disk_short: gauge(
+                "hobbychair_cluster_disk_short",
+                "1 if the disk of a server of the cluster has less room than its reserve.",
+            )?,
             lacked_room: counter(
                 "hobbychair_journal_full_total",
                 "How often a request was refused since the journal had no room for it.",
@@ -185,6 +190,7 @@ impl Metrics {
         self.open.set(figures.open as i64);
         self.memory.set(figures.memory_bytes as i64);
         self.memory_bound.set(figures.memory_bound.unwrap_or(0) as i64);
+        self.disk_short.set(figures.is_disk_short.into());
         raise(&self.restarts, figures.restarts);
         raise(&self.lacked_room, figures.lacked_room);
     }
@@ -219,7 +225,9 @@ mod tests {
         metrics.answered(None, 403, Duration::from_millis(2));
         let poll = metrics.poll();
         let messages = [Counts { queue: "a.fifo".into(), visible: 3, in_flight: 1, delayed: 2, set_aside: 1 }];
-        let figures = Figures { queues: 1, memory_bytes: 2, memory_bound: None, lacked_room: 7, restarts: 4, open: 9 };
+        let (queues, memory_bytes, memory_bound, is_disk_short) = (1, 2, None, true);
+        let figures =
+            Figures { queues, memory_bytes, memory_bound, is_disk_short, lacked_room: 7, restarts: 4, open: 9 };
         let text = String::from_utf8(metrics.text(&messages, Some(&figures)).unwrap()).unwrap();
         for line in [
             "hobbychair_requests_total{action=\"SendMessage\",status=\"200\"} 1",
@@ -235,6 +243,7 @@ mod tests {
             "hobbychair_queues 1",
             "hobbychair_memory_used_bytes 2",
             "hobbychair_memory_bound_bytes 0",
+            "hobbychair_cluster_disk_short 1",
             "hobbychair_journal_full_total 7",
             "hobbychair_cq_restarts_total 4",
         ] {

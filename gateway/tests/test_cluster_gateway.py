@@ -12,7 +12,7 @@ from pathlib import Path
 import pytest
 
 from cluster_work import Served, Work, arn
-from clusters import has_etcd, wait
+from clusters import has_etcd, run, wait
 from started import ByJson, Refused
 
 pytestmark = pytest.mark.skipif(not has_etcd(), reason="etcd isn't there: Debian's etcd-server has it")
@@ -98,6 +98,31 @@ def test_sends_are_refused_by_what_the_smallest_server_may_use(tmp_path):
         served.cluster.kill(2)
         wait(10, served.cluster.settles([1]), "it isn't detected")
         wait(10, lambda: fill(served, queue, body, most=5) == 5, "sends are refused still")
+    finally:
+        print(served.cluster.said())
+        served.end()
+
+
+def test_sends_are_refused_where_the_disk_of_a_server_is_short_of_room(tmp_path, small_disk):
+    disk = small_disk("24m")
+    words = {1: ["--journal", str(tmp_path / "journals")], 2: ["--journal", str(disk), "--journal-reserve", "8MiB"]}
+    served = Served(tmp_path, size=2, words=words.__getitem__)
+    try:
+        queue = served.queue("q")
+        assert fill(served, queue, "x", most=5) == 5
+        filler = disk / "filler"
+        filler.write_bytes(bytes(18 << 20))
+        wait(10, lambda: fill(served, queue, "x", most=1) == 0, "sends are taken")
+        with pytest.raises(served.sqs.exceptions.ClientError, match="OverLimit"):
+            served.queue("another")
+        [message, *_] = served.receive(queue)
+        served.delete(queue, message)
+        status = json.loads(run("cluster", "status", *served.cluster.which("master"), "--json").stdout)
+        room = {server["number"]: server["disk"] for server in status["servers"]}
+        assert room[2]["free"] < room[2]["reserve"] == 8 << 20 and room[1]["reserve"] == 256 << 20
+        served.cluster.node(2).logs("less than the reserve of 8MiB: sends are refused")
+        filler.unlink()
+        wait(10, lambda: fill(served, queue, "x", most=1) == 1, "sends are refused still")
     finally:
         print(served.cluster.said())
         served.end()

@@ -77,6 +77,9 @@ pub struct Node {
     /// How large what is behind the journal's last copy of the store gets before the next copy, or as large as that is
     #[arg(long, value_name = "SIZE", default_value = "256MiB", requires = "journal")]
     journal_size: Size,
+    /// With less room than this on the journal's disk the cluster refuses sends and creations
+    #[arg(long, value_name = "SIZE", default_value = "256MiB", requires = "journal")]
+    journal_reserve: Size,
     /// The program cq [default: cq of the path]
     #[arg(long, value_name = "PROGRAM", env = "HOBBYCHAIR_CQ")]
     pub cq: Option<String>,
@@ -185,8 +188,8 @@ pub fn run_node(node: Node, program: String) -> Result<()> {
     let place = Place { listen: node.listen, advertise: node.advertise };
     let memory = node.memory.unwrap_or_else(usual_bound);
     let limits = Limits { memory: memory.0, joiner: node.joiner_memory.0 };
-    let (is_durable, size) = (node.durable, node.journal_size.0);
-    let journal = node.journal.map(|folder| keeping::Settings { folder, is_durable, size });
+    let (is_durable, size, reserve) = (node.durable, node.journal_size.0, node.journal_reserve.0);
+    let journal = node.journal.map(|folder| keeping::Settings { folder, is_durable, size, reserve });
     let settings = node::Settings { place, beginning, program, gateway, limits, journal, trace: node.trace };
     let runtime = runtime(2)?;
     let end = runtime.block_on(async { node::run(node.which.find(&[Role::Node]).await?, settings).await })?;

@@ -25,8 +25,9 @@ pub enum FromNode {
     /// Nothing of the stream is taken from the first request on that was refused, for this number. All that is open has to
     /// be asked again, in order, in a stream with a larger number. `request`: the one that was refused first, if it has a name.
     Refused { stream: u64, code: u32, request: Option<RequestName> },
-    /// Messages may use so many bytes at each server of the chain, by the gateway's count.
-    Memory { bound: u64 },
+    /// Messages may use so many bytes at each server of the chain, by the gateway's count, and whether the disk of one of them
+    /// has less room than it is to keep in reserve.
+    Room { memory: u64, is_disk_short: bool },
     /// The chain went on at the moment `begun` from a store that was recovered, whose last entry is of the moment `last`. It is
     /// told ahead of the store.
     Paused { last: u64, begun: u64 },
@@ -79,7 +80,10 @@ impl FromNode {
                     out.number64(request.number);
                 });
             }),
-            FromNode::Memory { bound } => frame(6, |out| out.number64(*bound)),
+            FromNode::Room { memory, is_disk_short } => frame(6, |out| {
+                out.number64(*memory);
+                out.flag(*is_disk_short);
+            }),
             FromNode::Paused { last, begun } => frame(7, |out| {
                 out.number64(*last);
                 out.number64(*begun);
@@ -101,7 +105,7 @@ impl FromNode {
                 let name = |from: &mut Reader| Ok(RequestName { client: from.number32()?, number: from.number64()? });
                 FromNode::Refused { stream, code, request: is_named.then(|| name(&mut from)).transpose()? }
             }
-            6 => FromNode::Memory { bound: from.number64()? },
+            6 => FromNode::Room { memory: from.number64()?, is_disk_short: from.flag()? },
             7 => FromNode::Paused { last: from.number64()?, begun: from.number64()? },
             _ => return Err(Malformed("its kind is none of what a node tells")),
         };
@@ -152,7 +156,7 @@ mod tests {
             FromNode::Answer { message: run.clone() },
             FromNode::Acts,
             FromNode::Refused { stream: 3, code: 20, request: None },
-            FromNode::Memory { bound: 1 << 30 },
+            FromNode::Room { memory: 1 << 30, is_disk_short: true },
             FromNode::Paused { last: 5, begun: 9 },
             FromNode::Refused { stream: 3, code: 20, request: Some(RequestName { client: 4, number: 5 }) },
         ];

@@ -155,6 +155,23 @@ pub struct Beat {
     /// Why the master is asked to do without it, if it is.
     #[serde(default, skip_serializing_if = "Option::is_none")]
     pub condemned: Option<String>,
+    /// The disk of its journal, if it keeps one.
+    #[serde(default, skip_serializing_if = "Option::is_none")]
+    pub disk: Option<Disk>,
+}
+
+/// How much room a disk has, in bytes.
+#[derive(Clone, Copy, Debug, PartialEq, Eq, Serialize, Deserialize)]
+pub struct Disk {
+    pub free: u64,
+    /// With less than that sends and creations are refused.
+    pub reserve: u64,
+}
+
+impl Disk {
+    pub fn is_short(&self) -> bool {
+        self.free < self.reserve
+    }
 }
 
 /// How far the gateway is that a head's node has started.

@@ -11,7 +11,7 @@ use tokio::time::sleep;
 use crate::decision::View;
 use crate::etcd::{Entry, Operation};
 use crate::memory::Size;
-use crate::records::{self, last_number, Beat, Chain, Cluster, GatewayPhase, JournalKind, Line, Registration};
+use crate::records::{self, last_number, Beat, Chain, Cluster, Disk, GatewayPhase, JournalKind, Line, Registration};
 use crate::roster::Roster;
 use crate::silence::Silence;
 
@@ -19,7 +19,7 @@ use crate::silence::Silence;
 const LOOK: Duration = Duration::from_millis(1200);
 
 /// What is said of a server, for people.
-const COLUMNS: usize = 13;
+const COLUMNS: usize = 14;
 
 /// One server.
 #[derive(Debug, Serialize)]
@@ -48,6 +48,8 @@ struct Server {
     memory_bound_bytes: u64,
     /// Whether it keeps a journal, and when that is on the disk.
     journal: Option<JournalKind>,
+    /// What the journal's disk had at its last beat, and is to keep in reserve.
+    disk: Option<Disk>,
     /// How far its gateway is, by its last beat.
     gateway: Option<GatewayPhase>,
 }
@@ -144,6 +146,7 @@ fn servers(look: &Look, beats: impl Fn(&u32) -> bool) -> Vec<Server> {
             memory_bytes: beat.memory,
             memory_bound_bytes: look.registrations.get(&number).map_or(0, |registration| registration.memory),
             journal: look.registrations.get(&number).and_then(|registration| registration.journal),
+            disk: beat.disk,
             gateway: beat.gateway,
         }
     };
@@ -241,7 +244,7 @@ impl Status {
         let _ = writeln!(out, "cluster {} {}, line {} of the log", self.cluster, self.incarnation, self.line);
         let head = [
             "server", "address", "role", "count", "lag", "beats", "hears", "full", "acts", "fronts", "memory",
-            "journal", "gateway",
+            "journal", "disk", "gateway",
         ];
         let head = head.map(String::from);
         let rows: Vec<[String; COLUMNS]> = std::iter::once(head).chain(self.servers.iter().map(row)).collect();
@@ -279,6 +282,10 @@ fn row(server: &Server) -> [String; COLUMNS] {
         match server.journal {
             Some(JournalKind::Durable) => "durable".into(),
             Some(JournalKind::Buffered) => "buffered".into(),
+            None => "-".into(),
+        },
+        match &server.disk {
+            Some(disk) => format!("{}/{}", Size(disk.free), Size(disk.reserve)),
             None => "-".into(),
         },
         match server.gateway {

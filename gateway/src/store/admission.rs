@@ -1,6 +1,6 @@
 //! Whether there is memory for one more message: sends and creations are refused where its bound is full.
 
-use std::sync::atomic::{AtomicU64, Ordering};
+use std::sync::atomic::{AtomicBool, AtomicU64, Ordering};
 use std::sync::Arc;
 
 use crate::clock::Moment;
@@ -26,18 +26,28 @@ pub struct Admission {
     coming: AtomicU64,
     /// When ages were looked at last.
     looked: AtomicU64,
+    /// The disk of a server of the chain has too little room.
+    is_disk_short: AtomicBool,
 }
 
 impl Admission {
     pub fn new(queues: Arc<Queues>, limit: Option<u64>) -> Admission {
         let memory = Bound::default();
         memory.set(limit);
-        Admission { queues, own: limit, memory, coming: AtomicU64::new(0), looked: AtomicU64::new(0) }
+        let (coming, looked, is_disk_short) = Default::default();
+        Admission { queues, own: limit, memory, coming, looked, is_disk_short }
     }
 
-    /// Messages may use so many bytes at each server of a chain: the lower bound counts.
-    pub fn bound_by_chain(&self, bytes: u64) {
+    /// Messages may use so many bytes at each server of a chain: the lower bound counts. And whether the disk of one of them has
+    /// too little room for more of them.
+    pub fn bound_by_chain(&self, bytes: u64, is_disk_short: bool) {
         self.memory.set(Some(self.own.map_or(bytes, |own| own.min(bytes))));
+        self.is_disk_short.store(is_disk_short, Ordering::Relaxed);
+    }
+
+    /// Whether the disk of a server of the chain has too little room for more messages.
+    pub fn is_disk_short(&self) -> bool {
+        self.is_disk_short.load(Ordering::Relaxed)
     }
 
     /// What is in use of memory, in bytes.
@@ -77,6 +87,9 @@ impl Admission {
     }
 
     fn admit_bytes(&self, bytes: u64, now: Moment) -> Result<u64, SqsError> {
+        if self.is_disk_short() {
+            return Err(SqsError::OverLimit("The disk of a server has too little room for more messages.".into()));
+        }
         if self.is_full(bytes, now) {
             return Err(SqsError::OverLimit("The memory for messages is full.".into()));
         }
@@ -113,6 +126,7 @@ mod tests {
 
     use super::*;
     use crate::messages::Envelope;
+    use crate::moves::Origin;
     use crate::queues::ask::{Reach, StoreName};
     use crate::queues::book::QueueEntry;
     use crate::texts::{DedupId, GroupId, QueueName};
@@ -142,19 +156,31 @@ mod tests {
         for (own, told, counts) in [(None, 7, 7), (Some(5), 7, 5), (Some(9), 7, 7)] {
             let admission = Admission::new(Arc::default(), own);
             assert_eq!(admission.memory.limit(), own);
-            admission.bound_by_chain(told);
+            admission.bound_by_chain(told, false);
             assert_eq!(admission.memory.limit(), Some(counts));
         }
     }
 
+    fn send(cause: Cause) -> Ask {
+        let (group, dedup) = (GroupId::parse("g").unwrap(), DedupId::parse("d").unwrap());
+        Ask::Send { group, dedup, envelope: Envelope::Whole("x".repeat(1000)), cause }
+    }
+
+    #[test]
+    fn where_the_disk_of_a_server_is_short_of_room_clients_sends_are_refused_and_moves_go_on() {
+        let admission = Admission::new(Arc::default(), None);
+        admission.bound_by_chain(1 << 30, true);
+        let moved = send(Cause::Move(Origin { mark: 1, sequence: 2 }));
+        let receive = Ask::Receive { size: 1, visibility: 0, attempt: None, most: None, reach: Reach::All };
+        assert!(admission.admit(&send(Cause::Client), 0).is_err());
+        assert_eq!((admission.admit(&moved, 0), admission.admit(&receive, 0)), (Ok(0), Ok(0)));
+        admission.bound_by_chain(1 << 30, false);
+        assert!(admission.admit(&send(Cause::Client), 0).is_ok());
+    }
+
     #[test]
     fn sends_that_are_on_their_way_count_and_those_that_were_answered_do_not() {
-        let send = Ask::Send {
-            group: GroupId::parse("g").unwrap(),
-            dedup: DedupId::parse("d").unwrap(),
-            envelope: Envelope::Whole("x".repeat(1000)),
-            cause: Cause::Client,
-        };
+        let send = send(Cause::Client);
         let one = 1000 + MESSAGE_BYTES;
         let admission = Admission::new(Arc::default(), Some(4 * one));
         let admitted: Vec<_> = (0..5).map_while(|_| admission.admit(&send, 0).ok()).collect();

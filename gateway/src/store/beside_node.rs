@@ -94,7 +94,7 @@ async fn take_up_from(
             FromNode::Chunk { chunk } => take(&chunk)?,
             FromNode::Paused { last, begun } => paused = Some((last, begun)),
             // They are about what an earlier gateway asked.
-            FromNode::Answer { .. } | FromNode::Acts | FromNode::Refused { .. } | FromNode::Memory { .. } => {}
+            FromNode::Answer { .. } | FromNode::Acts | FromNode::Refused { .. } | FromNode::Room { .. } => {}
             FromNode::Stored { .. } => return Err(Malformed("the store isn't whole").into()),
         }
     }

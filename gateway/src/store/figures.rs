@@ -12,6 +12,8 @@ pub struct Figures {
     /// What is in use of memory, in bytes, by the count that the bound is about.
     pub memory_bytes: u64,
     pub memory_bound: Option<u64>,
+    /// Whether sends are refused since the disk of a server of the chain has too little room.
+    pub is_disk_short: bool,
     /// How often a request was refused since a program's journal had no room for it.
     pub lacked_room: u64,
     /// How often a program `cq` that had ended was started again.
@@ -52,6 +54,7 @@ impl Store {
             queues: self.queues.count(),
             memory_bytes: self.admission.bytes_in_use(),
             memory_bound: self.admission.memory.limit(),
+            is_disk_short: self.admission.is_disk_short(),
             lacked_room: self.counters.lacked_room.load(Ordering::Relaxed),
             restarts: self.counters.restarts.load(Ordering::Relaxed),
             open: self.counters.open.load(Ordering::Relaxed),

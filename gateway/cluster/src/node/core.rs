@@ -734,9 +734,7 @@ impl Core {
             return self.fail(format!("it was told to, and the chain hasn't let go of it within {seconds} s"));
         }
         self.tell_clients();
-        let servers = self.chain.iter().flat_map(Chain::servers);
-        let bound = self.node.least_memory(servers);
-        self.gateway.bound_memory(bound);
+        self.gateway.know_room(self.node.room(self.chain.as_ref()));
         self.gateway.know_pause(self.node.pause());
         self.gateway.foresee(self.may_become_head(), &self.node, &mut self.streams);
         self.gateway.tick(&self.node.time_for_gateway(), &mut self.streams);

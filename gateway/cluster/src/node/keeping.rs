@@ -34,6 +34,8 @@ pub struct Settings {
     pub is_durable: bool,
     /// A copy of the store is written once so many bytes, and as many as the last copy has, are behind that.
     pub size: u64,
+    /// With less room than so many bytes on the disk sends are refused.
+    pub reserve: u64,
 }
 
 /// What a server's answer adds to its list.
@@ -404,7 +406,7 @@ mod tests {
         let etcd = Etcd::new(&["http://127.0.0.1:1".into()], None).unwrap();
         let cluster = Cluster { name: "tested".into(), etcd, settings, keys: Keys::for_tests(), identity: None };
         let (tell, told) = channel();
-        let settings = Settings { folder: room.clone(), is_durable: false, size };
+        let settings = Settings { folder: room.clone(), is_durable: false, size, reserve: 0 };
         let keeping = Keeping::begin(&cluster, 2, &settings, None, move |event| drop(tell.send(event))).unwrap();
         Tested { room, keeping, told }
     }

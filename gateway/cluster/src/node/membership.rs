@@ -98,6 +98,9 @@ impl Membership {
             Operation::Get(keys.cluster.clone()),
         ];
         reads.extend(unknown.iter().map(|server| Operation::Get(keys.node(*server))));
+        // The head's gateway refuses by what all others say.
+        let is_head = lock(&node.report).standing.is_head;
+        reads.extend(is_head.then(|| Operation::all(&keys.beats())));
         let (letters, writes) = self.writes();
         let guards = [node.cluster.guard(), Guard::IsAbsent(keys.detected(node.id))];
         let all = [reads.clone(), writes].concat();
@@ -110,6 +113,7 @@ impl Membership {
             "the cluster of this name is another one now"
         );
         let registrations = unknown.iter().map(|server| Ok((*server, next()?))).collect::<Result<Vec<_>>>()?;
+        let beats = if is_head { next()? } else { Vec::new() };
         let chain: Chain = records::value(chain.first().context("the cluster has no chain")?)?;
         anyhow::ensure!(
             chain.line >= self.line,
@@ -126,6 +130,7 @@ impl Membership {
                 lock(&node.registrations).insert(server, registration);
             }
         }
+        *lock(&node.short_of_disk) = short_of_disk(&beats)?;
         let orders = self.new_orders(&orders)?;
         self.chain = Some(chain.clone());
         let detected = detected.iter().filter_map(|entry| last_number(&entry.key)).collect();
@@ -191,6 +196,7 @@ impl Membership {
             memory: memory::used_by(self.node.child),
             gateway: report.gateway,
             condemned: report.condemned.map(Into::into),
+            disk: *lock(&self.node.disk),
         }
     }
 
@@ -215,4 +221,15 @@ impl Membership {
         self.next_order = next;
         Ok(orders)
     }
+}
+
+/// The servers whose disks have too little room, by their beats.
+fn short_of_disk(beats: &[Entry]) -> Result<BTreeSet<u32>> {
+    let mut short = BTreeSet::new();
+    for entry in beats {
+        let beat: Beat = records::value(entry)?;
+        let server: Option<u32> = last_number(&entry.key);
+        short.extend(server.filter(|_| beat.disk.is_some_and(|disk| disk.is_short())));
+    }
+    Ok(short)
 }

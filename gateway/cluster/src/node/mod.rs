@@ -2,6 +2,7 @@
 
 mod connections;
 mod core;
+mod disk;
 mod fronts;
 pub mod gateway;
 mod inbox;
@@ -31,7 +32,7 @@ use crate::commands::Standing;
 use crate::etcd::{Guard, Operation};
 use crate::journal::{self, Folder, Written};
 use crate::pipe::FromNode;
-use crate::records::{self, random_name, Chain, Cluster, GatewayPhase, JournalKind, Pause, Registration};
+use crate::records::{self, random_name, Chain, Cluster, Disk, GatewayPhase, JournalKind, Pause, Registration};
 use crate::wire::{About, Frame};
 use crate::{lock, say};
 
@@ -167,6 +168,10 @@ pub struct Shared {
     front_places: Semaphore,
     /// There may be something to read or to write in etcd.
     look: Arc<Notify>,
+    /// The disk of the journal, as far as it was looked at.
+    disk: Mutex<Option<Disk>>,
+    /// Servers whose disks have too little room, as they said by their last beats. The head alone reads it.
+    short_of_disk: Mutex<BTreeSet<u32>>,
 }
 
 impl Shared {
@@ -202,11 +207,23 @@ impl Shared {
         Frame::Link { about: self.about(), from: self.id, nonce: self.nonce.clone(), to, gone: self.all_gone() }
     }
 
-    /// The least of what messages may use at these servers and here, as far as that is known.
-    fn least_memory(&self, servers: impl Iterator<Item = u32>) -> u64 {
+    /// What a gateway is told of the room at the servers of a chain and here, as far as that is known.
+    fn room(&self, chain: Option<&Chain>) -> FromNode {
+        let servers: Vec<u32> = chain.iter().flat_map(|chain| chain.servers()).collect();
+        FromNode::Room { memory: self.least_memory(&servers), is_disk_short: self.is_any_disk_short(&servers) }
+    }
+
+    /// The least of what messages may use.
+    fn least_memory(&self, servers: &[u32]) -> u64 {
         let known = lock(&self.registrations);
-        let others = servers.filter_map(|server| known.get(&server)).map(|registration| registration.memory);
+        let others = servers.iter().filter_map(|server| known.get(server)).map(|registration| registration.memory);
         others.filter(|memory| *memory > 0).fold(self.limits.memory, u64::min)
+    }
+
+    fn is_any_disk_short(&self, servers: &[u32]) -> bool {
+        let is_own_short = lock(&self.disk).is_some_and(|disk| disk.is_short());
+        let short = lock(&self.short_of_disk);
+        is_own_short || servers.iter().any(|server| short.contains(server))
     }
 
     fn about(&self) -> About {
@@ -281,10 +298,15 @@ pub async fn run(cluster: Cluster, settings: Settings) -> Result<End> {
         fronts: Fronts::default(),
         front_places: Semaphore::new(fronts::MOST_FRONTS),
         look: Arc::new(Notify::new()),
+        disk: Mutex::default(),
+        short_of_disk: Mutex::default(),
     });
     let found = if address == local { String::new() } else { format!(" and is found at {address}") };
     say(&format!("server {id} listens on {local}{found}"));
     tracing::info!(server = id, %address, child = child.id(), "a node begins");
+    if let Some(journal) = &settings.journal {
+        tokio::spawn(disk::watch(node.clone(), journal.folder.clone(), journal.reserve));
+    }
     let core = Core::new(node.clone(), child, settings.gateway, settings.trace.as_deref(), keeping)?;
     for kind in [SignalKind::terminate(), SignalKind::interrupt()] {
         tokio::spawn(hear_signals(signal(kind)?, node.clone()));

@@ -163,8 +163,8 @@ pub struct Beside {
     acting: Option<u32>,
     /// Queries for the node's own server.
     queries: VecDeque<Bytes>,
-    /// What messages may use at each server, in bytes.
-    memory: u64,
+    /// What room there is at all servers, as it is told.
+    room: Option<FromNode>,
     /// That the chain began with a store that was recovered, for gateways.
     paused: Option<FromNode>,
 }
@@ -317,7 +317,9 @@ impl Beside {
             life.timed = Instant::now();
             life.outlet.send_bytes(time.bytes());
             if life.store == Store::Open {
-                life.outlet.send_bytes(FromNode::Memory { bound: self.memory }.bytes());
+                if let Some(room) = &self.room {
+                    life.outlet.send_bytes(room.bytes());
+                }
                 life.unanswered += 1;
             }
         }
@@ -334,9 +336,9 @@ impl Beside {
         self.paused = paused.or(self.paused.take());
     }
 
-    /// Messages may use so many bytes at each server. A gateway is told so with the time.
-    pub fn bound_memory(&mut self, bound: u64) {
-        self.memory = bound;
+    /// What room there is at all servers. A gateway is told so with the time.
+    pub fn know_room(&mut self, room: FromNode) {
+        self.room = Some(room);
     }
 
     /// Tells the gateway something. Before it may ask nothing of this is about what it asked.

@@ -193,11 +193,12 @@ fn who_says_nothing_is_ended_once_it_has_the_store() {
         }
         beside.tick(&TIMED, streams);
     };
-    beside.bound_memory(7);
+    let room = FromNode::Room { memory: 7, is_disk_short: false };
+    beside.know_room(room.clone());
     assert_eq!(beside.phase(), Some(GatewayPhase::Begins));
     for round in 1..2 * MOST_UNANSWERED {
         tick(&mut beside, &mut streams);
-        assert_eq!(far.heard(), [TIMED, FromNode::Memory { bound: 7 }]);
+        assert_eq!(far.heard(), [TIMED, room.clone()]);
         if round % (MOST_UNANSWERED - 1) == 0 {
             beside.happen(Happening::Told { life: 1, told: FromGateway::Alive { time: 7 } }, &mut streams);
             assert_eq!(beside.phase(), Some(GatewayPhase::Acts));

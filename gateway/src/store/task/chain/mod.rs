@@ -159,8 +159,8 @@ impl Task {
             FromNode::Acts if self.is_stopped() => Ok(()),
             FromNode::Acts => self.ask_open_again(),
             FromNode::Refused { stream, code, request } => self.stream_refused(stream, code, request),
-            FromNode::Memory { bound } => {
-                self.admission.bound_by_chain(bound);
+            FromNode::Room { memory, is_disk_short } => {
+                self.admission.bound_by_chain(memory, is_disk_short);
                 Ok(())
             }
             FromNode::Chunk { .. } | FromNode::Stored { .. } | FromNode::Paused { .. } => Ok(()),
