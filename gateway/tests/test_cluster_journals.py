@@ -3,6 +3,7 @@
 from __future__ import annotations
 
 import json
+import os
 import subprocess
 import time
 from pathlib import Path
@@ -128,7 +129,7 @@ def test_a_node_whose_disk_hangs_is_given_up_and_the_others_go_on(hanging, start
     node = cluster.node(2)
     node.may_fail = True
     (folder_of(cluster, 2, room) / "hang").touch()
-    wait(20, lambda: not node.lives(), "it isn't given up")
+    assert wait(20, lambda: not node.lives(), "it isn't given up") < 4.5
     assert node.process.returncode == 1
     node.logs("the disk doesn't end a write")
     wait(10, cluster.settles([1, 3]), "the chain doesn't go on")
@@ -147,6 +148,60 @@ def test_nothing_is_answered_that_is_not_on_the_disk(hanging, start, tmp_path):
     assert len(users.records) <= before + 1
     (folder / "hang").unlink()
     answered(users)
+
+
+def test_nobody_is_given_up_where_all_disks_hang_and_all_goes_on_with_them(hanging, start, tmp_path):
+    room = tmp_path / "journals"
+    cluster, users = start(words=words(room, "--durable"))
+    # The master hears of all of them at once.
+    cluster.stop_masters()
+    hangs = [folder_of(cluster, server, room) / "hang" for server in (1, 2, 3)]
+    for hang in hangs:
+        hang.touch()
+    wait(10, lambda: len(cluster.etcd.read(f"{cluster.root}/master/condemned/")) == 3, "not all of them say so")
+    cluster.masters_go_on()
+    time.sleep(3)
+    assert cluster.detected() == []
+    for hang in hangs:
+        hang.unlink()
+    answered(users)
+    assert cluster.detected() == [] and cluster.settles([1, 2, 3])()
+
+
+@pytest.mark.parametrize("kind", KINDS)
+def test_a_loss_of_power_takes_nothing_that_was_acknowledged_where_journals_are_durable(hanging, tmp_path, monkeypatch, kind):
+    """Of each file there is what was synced, and no more. Of journals that aren't durable that takes what users were told: so it
+    would here, if a node didn't wait."""
+    room, synced = tmp_path / "journals", tmp_path / "synced"
+    synced.mkdir()
+    monkeypatch.setenv("HOBBYCHAIR_TEST_SYNCED", str(synced))
+    cluster = Cluster(tmp_path, words=words(room, *KINDS[kind]))
+    try:
+        users = Users(cluster, 1, think=0.002)
+        wait(60, lambda: len(users.records) > 300, "users aren't answered")
+        kill_all(cluster)
+        users.ends = True
+        users.join(30)
+        lose_power(room, synced)
+        counts = [Journal(folder_of(cluster, server, room)).count() for server in (1, 2, 3)]
+        lost = [one for one in users.records if one.length > min(counts)]
+        if kind == "durable":
+            assert not lost, f"{len(lost)} of {len(users.records)} are lost: {counts}"
+            check_journals(cluster, room)
+        else:
+            assert lost, "nothing is lost: this test can't tell"
+    finally:
+        print(cluster.said())
+        cluster.end()
+
+
+def lose_power(room: Path, synced: Path) -> None:
+    """Each file of the journals has no more than was on the disk."""
+    for file in room.glob("*/entries.??????"):
+        noted = synced / str(file).replace("/", "%")
+        size = int(noted.read_text() or 0) if noted.exists() else 0
+        assert size <= file.stat().st_size
+        os.truncate(file, size)
 
 
 def fill(room: Path) -> Path:
