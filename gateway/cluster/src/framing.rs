@@ -103,7 +103,7 @@ impl FileFrames {
     }
 
     /// The next frame, if there is a good one. Behind one that isn't good there is none.
-    pub fn next(&mut self) -> io::Result<Option<Frame<'_>>> {
+    pub fn next_frame(&mut self) -> io::Result<Option<Frame<'_>>> {
         let head = if self.is_over { None } else { self.read()? };
         let frame = head.and_then(|head| head.frame(&self.payload));
         match &frame {
@@ -163,10 +163,10 @@ mod tests {
     /// The numbers of the frames of a file, and the place behind them, if that isn't its end.
     fn read_file(path: &Path) -> (Vec<u64>, Option<u64>) {
         let (mut frames, mut numbers) = (FileFrames::open(path).unwrap(), Vec::new());
-        while let Some(frame) = frames.next().unwrap() {
+        while let Some(frame) = frames.next_frame().unwrap() {
             numbers.push(frame.number);
         }
-        assert_eq!(frames.next().unwrap(), None, "nothing comes behind the end");
+        assert_eq!(frames.next_frame().unwrap(), None, "nothing comes behind the end");
         (numbers, (!frames.is_at_end()).then(|| frames.place()))
     }
 

@@ -276,7 +276,7 @@ impl Chunks {
             if let Some(chunk) = self.ahead.find_map(chunk_of) {
                 return Ok(Some(chunk));
             }
-            let Some(frame) = self.frames.as_mut().map_or(Ok(None), FileFrames::next)? else { return Ok(None) };
+            let Some(frame) = self.frames.as_mut().map_or(Ok(None), FileFrames::next_frame)? else { return Ok(None) };
             let malformed = |malformed| io::Error::new(io::ErrorKind::InvalidData, malformed);
             self.ahead = Record::read_all(Bytes::copy_from_slice(frame.payload)).map_err(malformed)?.into_iter();
         }
@@ -295,7 +295,7 @@ fn read_store(path: &Path) -> Result<(Head, u64), Unusable> {
     let (mut frames, mut number) = (open(path)?, 0);
     let (mut head, mut start, mut is_whole) = (None, None, false);
     let spoilt = |place| Unusable::Store { file: path.into(), place };
-    while let Some(frame) = super::about(path, frames.next())? {
+    while let Some(frame) = super::about(path, frames.next_frame())? {
         let place = frame.place;
         if frame.number != number + 1 {
             return Err(spoilt(place));
