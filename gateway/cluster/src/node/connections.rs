@@ -354,6 +354,7 @@ async fn link(
         }
     };
     let ended: io::Result<()> = tokio::select! { ended = read => ended, ended = write => ended };
+    node.tell(Event::Unlinked { from, connection });
     tracing::info!(from, error = %ended.as_ref().err().map_or_else(String::new, ToString::to_string), "a link's connection ends");
     Ok(())
 }

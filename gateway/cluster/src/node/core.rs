@@ -2,14 +2,12 @@
 
 use std::collections::{BTreeMap, BTreeSet, VecDeque};
 use std::path::Path;
-use std::sync::atomic::{AtomicBool, AtomicU64, Ordering};
 use std::sync::Arc;
 use std::time::{Duration, Instant};
 
 use anyhow::Result;
 use bytes::Bytes;
 use tokio::sync::mpsc::UnboundedReceiver;
-use tokio::sync::Notify;
 
 use crate::child::{Child, Told};
 use crate::clock;
@@ -20,10 +18,10 @@ use crate::lock;
 use crate::records::Chain;
 use crate::wire::Frame;
 
-use super::connections::{next_connection, Acknowledging, Linked};
 use super::gateway::{self, Beside};
 use super::inbox::{Inbox, Taken};
 use super::keeping::{Added, Keeping};
+use super::peers::Peers;
 use super::streams::{Streams, Turn, Work};
 use super::trace::Trace;
 use super::{End, Event, Report, Shared};
@@ -33,9 +31,6 @@ pub const TICK: Duration = Duration::from_millis(50);
 
 /// So often clients are told where the server stands.
 const SAYING: Duration = Duration::from_millis(500);
-
-/// From whom nothing came for so long isn't heard any more.
-const HEARD: Duration = Duration::from_secs(1);
 
 /// A server that is told something, and tells nothing for so long, doesn't work.
 const STUCK: Duration = Duration::from_secs(5);
@@ -93,16 +88,6 @@ enum Wait {
     Asked,
 }
 
-/// The receiving end of a link.
-struct Peer {
-    /// The connection that counts.
-    connection: u64,
-    /// The number of the last frame.
-    received: u64,
-    heard: Option<Instant>,
-    acknowledging: Arc<Acknowledging>,
-}
-
 /// All that a node knows.
 pub struct Core {
     node: Arc<Shared>,
@@ -118,7 +103,7 @@ pub struct Core {
     /// So many servers are gone of which the server is told, and hasn't answered.
     telling: usize,
     links: BTreeMap<u32, Arc<Link>>,
-    peers: BTreeMap<u32, Peer>,
+    peers: Peers,
     inboxes: BTreeMap<Party, Inbox>,
     /// For whom something waits at the server.
     waiting: BTreeMap<Party, Wait>,
@@ -161,7 +146,7 @@ impl Core {
             untold: BTreeSet::new(),
             telling: 0,
             links: BTreeMap::new(),
-            peers: BTreeMap::new(),
+            peers: Peers::default(),
             inboxes: BTreeMap::new(),
             waiting: BTreeMap::new(),
             streams: Streams::default(),
@@ -209,10 +194,12 @@ impl Core {
             Event::Learned(gone) => self.learn(&gone),
             Event::Linking { from, gone, reply } => {
                 self.learn(&gone);
-                let linked = (self.end.is_none() && !self.gone.contains(&from)).then(|| self.begin_connection(from));
+                let linked =
+                    (self.end.is_none() && !self.gone.contains(&from)).then(|| self.peers.begin_connection(from));
                 let _ = reply.send(linked);
             }
             Event::Came { from, connection, frame } => self.came(from, connection, frame),
+            Event::Unlinked { from, connection } => self.peers.ended(from, connection),
             Event::Received => {}
             Event::Read { detected, chain, orders } => self.hear_of_log(detected, chain, orders),
             Event::Journal(written) => self.hear_of_journal(written),
@@ -537,10 +524,7 @@ impl Core {
             if let Some(link) = self.links.remove(server) {
                 link.close();
             }
-            if let Some(peer) = self.peers.remove(server) {
-                // It begins a new one, and is told there.
-                peer.acknowledging.end();
-            }
+            self.peers.remove(*server);
             self.inboxes.remove(&Party::Server(*server));
             self.waiting.remove(&Party::Server(*server));
             self.links.values().for_each(|link| link.send_gone(*server));
@@ -582,51 +566,19 @@ impl Core {
         self.links.entry(server).or_insert_with(begin).clone()
     }
 
-    /// The link goes on over a new connection: what comes by an earlier one counts no more.
-    fn begin_connection(&mut self, from: u32) -> Linked {
-        let connection = next_connection();
-        let received = self.peers.get(&from).map_or(0, |peer| peer.received);
-        let acknowledging = Arc::new(Acknowledging {
-            received: AtomicU64::new(received),
-            is_over: AtomicBool::new(false),
-            wake: Notify::new(),
-        });
-        let heard = self.peers.get(&from).and_then(|peer| peer.heard);
-        let peer = Peer { connection, received, heard, acknowledging: acknowledging.clone() };
-        if let Some(before) = self.peers.insert(from, peer) {
-            before.acknowledging.end();
-        }
-        Linked { connection, received, acknowledging }
-    }
-
     fn came(&mut self, from: u32, connection: u64, frame: Frame) {
-        let Some(peer) = self.peers.get_mut(&from).filter(|peer| peer.connection == connection) else { return };
-        peer.heard = Some(Instant::now());
+        if !self.peers.came(from, connection) {
+            return;
+        }
         match frame {
             Frame::Ping { time } if self.precedes(from) => lock(&self.node.clock).follow(time, clock::since_start()),
-            Frame::Message { frame, place, piece } if self.is_next(from, frame) => {
+            Frame::Message { frame, place, piece } if self.peers.is_next(from, frame) => {
                 let inbox = self.inboxes.entry(Party::Server(from)).or_insert_with(|| Inbox::new(Party::Server(from)));
                 inbox.push(place, piece);
             }
-            Frame::Gone { frame, server } if self.is_next(from, frame) => self.learn(&[server]),
+            Frame::Gone { frame, server } if self.peers.is_next(from, frame) => self.learn(&[server]),
             _ => {}
         }
-    }
-
-    /// Whether that frame is the next one of its link. If so it counts as received.
-    fn is_next(&mut self, from: u32, frame: u64) -> bool {
-        let Some(peer) = self.peers.get_mut(&from) else { return false };
-        if frame != peer.received + 1 {
-            tracing::warn!(from, frame, received = peer.received, "a frame comes out of its turn: its connection ends");
-            peer.acknowledging.end();
-            // What comes before the next connection counts no more.
-            peer.connection = 0;
-            return false;
-        }
-        peer.received = frame;
-        peer.acknowledging.received.store(frame, Ordering::Release);
-        peer.acknowledging.wake.notify_one();
-        true
     }
 
     /// Whether that server stands right before this one.
@@ -636,10 +588,7 @@ impl Core {
 
     /// Whether all servers that stand before this one are gone, or silent for a while. It is a guess.
     fn may_become_head(&self) -> bool {
-        let is_silent = |server: &u32| {
-            let heard = self.peers.get(server).and_then(|peer| peer.heard);
-            self.gone.contains(server) || heard.is_some_and(|heard| heard.max(self.awake).elapsed() > HEARD)
-        };
+        let is_silent = |server: &u32| self.gone.contains(server) || self.peers.is_silent(*server, self.awake);
         let chain = self.chain.as_ref().filter(|chain| chain.members.contains(&self.node.id));
         chain.is_some_and(|chain| chain.before(self.node.id).iter().all(is_silent))
     }
@@ -776,13 +725,11 @@ impl Core {
     }
 
     fn report(&self) {
-        let hears =
-            |(server, peer): (&u32, &Peer)| peer.heard.is_some_and(|heard| heard.elapsed() < HEARD).then_some(*server);
         let leaves = self.leaving.map(|_| "its node is told to end");
         let disk = self.keeping.as_ref().and_then(Keeping::fault).map(|(why, _)| why);
         *lock(&self.node.report) = Report {
             standing: self.standing,
-            hears: self.peers.iter().filter_map(hears).collect(),
+            hears: self.peers.heard(),
             clients: self.streams.len(),
             condemned: self.is_stuck.then_some("its process doesn't answer").or(disk).or(leaves),
             late_joiner: self.late_joiner,

@@ -9,6 +9,7 @@ mod inbox;
 pub mod keeping;
 mod loading;
 mod membership;
+mod peers;
 mod streams;
 mod trace;
 
@@ -111,6 +112,8 @@ pub enum Event {
     Linking { from: u32, gone: Vec<u32>, reply: oneshot::Sender<Option<Linked>> },
     /// Something came by a link, over the connection with that number.
     Came { from: u32, connection: u64, frame: Frame },
+    /// That connection of a link has ended.
+    Unlinked { from: u32, connection: u64 },
     /// Something that was awaited has come to the other end of a link.
     Received,
     /// What was read in etcd at one moment.
