@@ -139,6 +139,40 @@ def fill(served: Served, queue: str, body: str, most: int = 100) -> int:
     return most
 
 
+def test_the_next_heads_gateway_is_told_the_store_while_the_loss_of_the_head_is_found_out(served):
+    queue = served.queue("q")
+    for number in range(50):
+        served.sqs.send_message(QueueUrl=queue, MessageBody=str(number))
+    served.cluster.kill(1)
+    wait(10, lambda: served.cluster.gateway_acts(2), "no gateway acts")
+    log = served.cluster.node(2).log.read_text()
+    said = ["this server may soon be the head", "a gateway begins", "the store is told", "a server is gone", "the gateway may ask"]
+    places = [log.index(one) for one in said]
+    assert places == sorted(places) and "ahead=true" in log[places[-1]:]
+    assert "this server may soon be the head" not in served.cluster.node(3).log.read_text()
+    assert served.counts(queue) == [50, 0, 0]
+    got = [message for _ in range(10) for message in served.receive(queue)]
+    assert len(got) == 50
+
+
+def test_a_gateway_that_was_started_in_vain_is_ended_and_one_that_is_not_acts(served):
+    queue, node = served.queue("q"), served.cluster.node(2)
+    # Nobody is given up meanwhile.
+    served.cluster.stop_masters()
+    for _ in range(2):
+        said = node.log.read_text().count("the gateway is ended")
+        served.cluster.node(1).stop()
+        wait(10, lambda: node.gateway() is not None, "no gateway is started")
+        served.cluster.node(1).go_on()
+        wait(10, lambda: node.log.read_text().count("heard again: the gateway is ended") > said, "it isn't ended")
+        wait(10, lambda: node.gateway() is None, "its process goes on")
+        served.sqs.send_message(QueueUrl=queue, MessageBody="a")
+    served.cluster.masters_go_on()
+    served.cluster.kill(1)
+    wait(10, lambda: served.cluster.gateway_acts(2), "no gateway acts")
+    assert served.counts(queue) == [2, 0, 0]
+
+
 def test_what_was_done_is_no_error_the_second_time(served):
     """A front that got no answer asks again, and says so."""
     url = f"http://127.0.0.1:{served.cluster.node(1).gateway_port}"
