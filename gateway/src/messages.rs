@@ -339,7 +339,11 @@ pub struct EnvelopeHead {
 impl EnvelopeHead {
     /// The head of an envelope, whole or not. Takes time in proportion to its first line.
     pub fn of(envelope: &str) -> Option<EnvelopeHead> {
-        serde_json::from_str(envelope.split('\n').next()?).ok()
+        let line = envelope.split('\n').next()?;
+        match plain_moment(line) {
+            Some(sent) => Some(EnvelopeHead { sent: Some(sent), ..EnvelopeHead::default() }),
+            None => serde_json::from_str(line).ok(),
+        }
     }
 
     /// The head of an envelope that stands in parts, if it does.
@@ -364,6 +368,26 @@ impl EnvelopeHead {
         let metadata = Metadata { id, of, sent: self.sent?, due, source, ..metadata };
         Some(serde_json::to_string(&metadata).ok()? + "\n" + body)
     }
+}
+
+/// The moment of most metadata: what says when it was sent, and then at most some short texts that the tables don't need. None
+/// of all else.
+fn plain_moment(line: &str) -> Option<Moment> {
+    const NOT_NEEDED: [&str; 3] = [",\"dedup\":\"", ",\"group\":\"", ",\"sender\":\""];
+    let rest = line.strip_prefix("{\"sent\":")?;
+    let digits = rest.bytes().take_while(u8::is_ascii_digit).count();
+    let (moment, mut rest) = rest.split_at(digits);
+    if moment.starts_with('0') {
+        return None;
+    }
+    for name in NOT_NEEDED {
+        if let Some(text) = rest.strip_prefix(name) {
+            // What JSON doesn't take as it is ends it, too.
+            let end = text.find(|one: char| one == '"' || one == '\\' || one.is_ascii_control())?;
+            rest = text[end..].strip_prefix('"')?;
+        }
+    }
+    (rest == "}").then(|| moment.parse().ok()).flatten()
 }
 
 /// Whether an envelope stands in parts.
@@ -424,6 +448,37 @@ mod tests {
 
     fn metadata() -> Metadata {
         Metadata { sent: 1_700_000_000_000, dedup: DedupId::parse("d").ok(), ..Metadata::default() }
+    }
+
+    #[test]
+    fn plain_metadata_is_read_as_json_is() {
+        let group = GroupId::parse("g").ok();
+        let plain = Metadata { group, sender: Some("AKIA".into()), ..metadata() };
+        let quoted = Metadata { dedup: DedupId::parse("a\"b\\c").ok(), ..metadata() };
+        let moved = Metadata { source: QueueName::parse("s"), ..metadata() };
+        let mut lines: Vec<String> = [metadata(), plain, quoted, moved, Metadata::default()]
+            .iter()
+            .map(|metadata| serde_json::to_string(metadata).unwrap())
+            .collect();
+        assert!(lines[..2].iter().all(|line| plain_moment(line) == Some(1_700_000_000_000)));
+        assert!(lines[2..].iter().all(|line| plain_moment(line).is_none()));
+        // A moment with zeros before it, or none, or too large a one, texts in another order, and what is no JSON.
+        let others = [
+            r#"{"sent":007}"#,
+            r#"{"sent":}"#,
+            r#"{"sent":99999999999999999999}"#,
+            r#"{"sent":7,"sender":"s","dedup":"d"}"#,
+            r#"{"sent":7,"dedup":"d","due":9}"#,
+            r#"{"sent":7,"dedup":"d""#,
+            r#"{"sent":7,"dedup":"d"}x"#,
+            r#"{"sent":7,"dedup":"d","dedup":"e"}"#,
+            "{\"sent\":7,\"dedup\":\"a\tb\"}",
+            r#"{"sent":7}"#,
+        ];
+        lines.extend(others.map(String::from));
+        for line in lines {
+            assert_eq!(EnvelopeHead::of(&line), serde_json::from_str(&line).ok(), "{line}");
+        }
     }
 
     #[test]

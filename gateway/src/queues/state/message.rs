@@ -117,6 +117,16 @@ impl Messages {
         self.by_sequence.values_mut().filter_map(|message| message.parts.take()).collect()
     }
 
+    /// So many more will be added.
+    pub(super) fn expect(&mut self, count: usize) {
+        self.by_sequence.reserve(count);
+    }
+
+    /// How many have this number or a larger one.
+    pub(super) fn count_from(&self, sequence: u64) -> u64 {
+        self.order.count_from((), sequence)
+    }
+
     /// Their groups.
     pub(super) fn groups(&self) -> Groups {
         let mut groups = Groups::default();

@@ -53,6 +53,14 @@ impl<K: Ord + Copy> Numbers<K> {
         })
     }
 
+    /// How many numbers of a key there are from this one on.
+    pub(super) fn count_from(&self, key: K, number: u64) -> u64 {
+        let first = number / BLOCK;
+        let blocks = self.0.range((key, first)..=(key, u64::MAX));
+        let behind = |block: u64| if block == first { u64::MAX << (number % BLOCK) } else { u64::MAX };
+        blocks.map(|((_, block), bits)| u64::from((bits & behind(*block)).count_ones())).sum()
+    }
+
     /// The first key that isn't less than this one.
     pub(super) fn first_key_from(&self, key: K) -> Option<K> {
         self.0.range((key, 0)..).next().map(|((own, _), _)| *own)
@@ -157,6 +165,8 @@ mod tests {
                 prop_assert_eq!(numbers.first(), plain.first().copied());
             }
             let behind: Vec<_> = plain.range(from..).copied().collect();
+            let of_key = behind.iter().filter(|(key, _)| *key == from.0).count();
+            prop_assert_eq!(numbers.count_from(from.0, from.1), of_key as u64);
             prop_assert_eq!(numbers.from(from.0, from.1).collect::<Vec<_>>(), behind);
             prop_assert_eq!(numbers.first_key_from(1), plain.range((1, 0)..).next().map(|(key, _)| *key));
             prop_assert!(plain.iter().all(|(key, number)| numbers.has(*key, *number)));

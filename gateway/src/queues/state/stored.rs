@@ -22,6 +22,7 @@ impl State {
     pub(in crate::queues) fn take_up(&mut self, stored: StoredQueue, last: Moment, keeps_copies: bool) -> Named {
         self.last_sequence = self.entry.base + stored.sent;
         let (mut named, mut texts) = (Named::default(), HashMap::new());
+        self.messages.expect(stored.messages.len());
         for mut message in stored.messages {
             named.parts.extend(message.head.parts);
             named.origins.extend(message.head.of);
@@ -94,8 +95,8 @@ impl State {
             }
             self.recent.push_front(send.moment);
         }
-        let recent = self.first_recent()..=self.last_sequence;
-        self.left_ids = recent.filter(|sequence| !self.messages.has(*sequence)).count() as u64;
+        let recent_left = self.messages.count_from(self.first_recent());
+        self.left_ids = (self.recent.len() as u64).saturating_sub(recent_left);
     }
 
     /// Takes up which calls have sent messages to the queue beside this one, of this mark.
