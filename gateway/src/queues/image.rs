@@ -71,7 +71,7 @@ pub(super) struct StoredQueue {
 pub(super) struct StoredMessage {
     pub(super) sequence: u64,
     pub(super) group: Group,
-    pub(super) head: EnvelopeHead,
+    pub(super) head: StoredHead,
     pub(super) bytes: u64,
     pub(super) handings: u64,
     /// When it was handed out last, and up to when it is hidden, or 0.
@@ -79,6 +79,43 @@ pub(super) struct StoredMessage {
     pub(super) until: Moment,
     /// The id of its group and its envelope, where operators look at messages, or where an attempt may have been given it.
     pub(super) text: Option<(Box<str>, Arc<str>)>,
+}
+
+/// What the head of an envelope says, in little room: in most of them there is nothing but the moment of the send.
+pub(super) enum StoredHead {
+    Plain(Moment),
+    Other(Box<EnvelopeHead>),
+}
+
+impl StoredHead {
+    fn of(head: EnvelopeHead) -> StoredHead {
+        match head {
+            EnvelopeHead {
+                parts: None,
+                bytes: None,
+                id: None,
+                of: None,
+                sent: Some(sent),
+                due: None,
+                source: None,
+            } => StoredHead::Plain(sent),
+            other => StoredHead::Other(other.into()),
+        }
+    }
+
+    fn has_moment(&self) -> bool {
+        match self {
+            StoredHead::Plain(_) => true,
+            StoredHead::Other(head) => head.sent.is_some(),
+        }
+    }
+
+    pub(super) fn into_head(self) -> EnvelopeHead {
+        match self {
+            StoredHead::Plain(sent) => EnvelopeHead { sent: Some(sent), ..EnvelopeHead::default() },
+            StoredHead::Other(head) => *head,
+        }
+    }
 }
 
 pub(super) struct AcceptedSend {
@@ -100,11 +137,11 @@ impl StoredQueue {
         let lines: HashMap<_, _> = self.older.iter().filter_map(of_line).collect();
         for message in &mut self.messages {
             if let Some(line) = lines.get(&(base + message.sequence)) {
-                message.head = EnvelopeHead::of(line).unwrap_or_default();
+                message.head = StoredHead::of(EnvelopeHead::of(line).unwrap_or_default());
                 message.text = message.text.take().map(|(group, _)| (group, line.as_str().into()));
             }
         }
-        self.messages.iter().all(|message| message.head.sent.is_some())
+        self.messages.iter().all(|message| message.head.has_moment())
     }
 }
 
@@ -198,7 +235,7 @@ impl Image {
             queue.messages.push(StoredMessage {
                 sequence,
                 group: Group::of(group),
-                head,
+                head: StoredHead::of(head),
                 bytes: body.len() as u64,
                 handings,
                 handed,

@@ -12,6 +12,7 @@ use crate::handles::{Mark, Receipt};
 use crate::messages::message_id;
 #[cfg(test)]
 use crate::move_tasks::MoveTask;
+use crate::moves::Origin;
 use crate::queues::ask::Handed;
 use crate::queues::book::AttemptEntry;
 use crate::queues::image::{AcceptedSend, Named, StoredMessage, StoredQueue};
@@ -24,11 +25,11 @@ impl State {
         let (mut named, mut texts) = (Named::default(), HashMap::new());
         self.messages.expect(stored.messages.len());
         for mut message in stored.messages {
-            named.parts.extend(message.head.parts);
-            named.origins.extend(message.head.of);
             let text = if keeps_copies { message.text.clone() } else { message.text.take() };
             texts.extend(text.map(|text| (self.entry.base + message.sequence, text)));
-            self.take_up_message(message);
+            let (part, origin) = self.take_up_message(message);
+            named.parts.extend(part);
+            named.origins.extend(origin);
         }
         self.groups = self.groups_of_delayed();
         self.take_up_older(stored.older);
@@ -43,8 +44,10 @@ impl State {
         named
     }
 
-    fn take_up_message(&mut self, stored: StoredMessage) {
+    /// Takes up a message. Tells its parts, and what it is the copy of.
+    fn take_up_message(&mut self, stored: StoredMessage) -> (Option<u64>, Option<Origin>) {
         let StoredMessage { group, head, handings, handed, until, text, .. } = stored;
+        let head = head.into_head();
         let sequence = self.entry.base + stored.sequence;
         let source = head.source.map(Arc::new);
         let bytes = stored.bytes + head.bytes.unwrap_or(0);
@@ -65,6 +68,7 @@ impl State {
         if let Some(due) = head.due {
             self.due.add(sequence, due);
         }
+        (head.parts, head.of)
     }
 
     /// Takes up what an attempt was given, if that is all in flight by these handings, and nobody has changed it since.
