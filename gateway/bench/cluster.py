@@ -49,7 +49,7 @@ class Measured:
 
     def __init__(self, size: int = 3) -> None:
         self.room = tempfile.TemporaryDirectory()
-        self.served = Served(Path(self.room.name), size=size, words=lambda number: ["--memory", "8GiB"])
+        self.served = Served(Path(self.room.name), size=size, words=lambda number: ["--memory", "8GiB"], traced=False)
 
     def __enter__(self) -> Served:
         return self.served

@@ -32,7 +32,7 @@ def main() -> int:
     for kind, words in KINDS.items():
         with tempfile.TemporaryDirectory(dir=given.folder) as room:
             kept = [*words, str(Path(room) / "journals")] if words else []
-            cluster = Cluster(Path(room), gateways=True, words=lambda number: kept)
+            cluster = Cluster(Path(room), gateways=True, words=lambda number: kept, traced=False)
             try:
                 wait(30, lambda: cluster.gateway_acts(1), "no gateway acts")
                 target = f"{kind}=http://127.0.0.1:{cluster.node(1).gateway_port}"

@@ -121,7 +121,7 @@ def tell(node: Node, killed: float, asking: Asking) -> None:
 
 
 def run(room: Path, messages: int, queues: int) -> None:
-    served = Served(room, words=lambda number: ["--memory", "8GiB"])
+    served = Served(room, words=lambda number: ["--memory", "8GiB"], traced=False)
     try:
         cluster, begun = served.cluster, time.monotonic()
         fill(f"http://127.0.0.1:{cluster.node(1).gateway_port}", queues, messages)

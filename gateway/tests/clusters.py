@@ -304,9 +304,10 @@ class Cluster:
     def __init__(self, room: Path, size: int = 3, members: int = 1, masters: int = 2, absent: tuple[int, ...] = (),
                  programs: Callable[[str], str] = lambda name: program(), breakable: bool = False,
                  gateways: bool = False, certificates: Certificates | None = None, clocks: bool = False,
-                 words: Callable[[int], list[str]] = lambda number: []) -> None:
+                 words: Callable[[int], list[str]] = lambda number: [], traced: bool = True) -> None:
         """`words` are those that the node that is started as that one gets, beside the usual ones. With `clocks` the wall clocks of
-        nodes can be stepped."""
+        nodes can be stepped. `traced`: nodes write down all that servers tell, which takes time."""
+        self.traced = traced
         self.between: list[Proxy] = []
         self.words = words
         self.room, self.size, self.programs, self.gateways = room, size, programs, gateways
@@ -364,7 +365,8 @@ class Cluster:
         how += self.words(len(self.nodes) + 1)
         which = [urls if word == ",".join(self.etcd.urls) else word for word in self.which("node", name)]
         clock = WallClock(self.room / f"{name}.clock") if self.clocks else None
-        process, log = self._start(name, "node", *which, "--listen", "127.0.0.1:0", "--trace", str(trace), *how, clock=clock)
+        traced = ["--trace", str(trace)] if self.traced else []
+        process, log = self._start(name, "node", *which, "--listen", "127.0.0.1:0", *traced, *how, clock=clock)
         node = Node(process, log, trace, proxy)
         node.clock = clock
         node.gateway_port = port
