@@ -4,6 +4,7 @@ _cq() {
     case ${COMP_WORDS[1]} in
     replay) COMPREPLY=($(compgen -W "--servers --help" -- "$word")) ;;
     live) COMPREPLY=($(compgen -W "--servers --turns --help" -- "$word")) ;;
+    explain) COMPREPLY=($(compgen -W "--servers --live --help" -- "$word")) ;;
     session)
         if [ "${COMP_WORDS[COMP_CWORD - 1]}" = --journal ]; then
             COMPREPLY=($(compgen -f -- "$word"))
@@ -12,7 +13,7 @@ _cq() {
         fi
         ;;
     verify | copy | dump) COMPREPLY=($(compgen -f -- "$word") $(compgen -W "--help" -- "$word")) ;;
-    *) [ "$COMP_CWORD" -gt 1 ] || COMPREPLY=($(compgen -W "replay session live verify copy dump help --help --version" -- "$word")) ;;
+    *) [ "$COMP_CWORD" -gt 1 ] || COMPREPLY=($(compgen -W "replay session live explain verify copy dump help --help --version" -- "$word")) ;;
     esac
 }
 complete -F _cq cq

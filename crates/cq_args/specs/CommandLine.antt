@@ -7,7 +7,7 @@ use Rattle.clap.specs.Simple.{on_top}
 use Rattle.clap.specs.declared.builder.action.ArgAction.TheVariants.{SetTrue}
 use Rattle.clap.specs.declared.builder.value_parser.ValueParser.TheVariants.{Signed, Unsigned}
 use Rattle.cq_args.specs.declared.invocation.Invocation.{Invocation}
-use Rattle.cq_args.specs.declared.invocation.Invocation.TheVariants.{Copy, Dump, First, Joining, Kept, Live, Loaded, Master, Replay, Session, Verify}
+use Rattle.cq_args.specs.declared.invocation.Invocation.TheVariants.{Copy, Dump, Explain, First, Joining, Kept, Live, Loaded, Master, Replay, Session, Verify}
 
 -- how many servers the chain begins with; no command about a journal's file has any, and none about a server that joins
 abbrev pub size_of : Invocation → ℕ
@@ -22,6 +22,7 @@ size_of (First id size) = size
 size_of (Joining id) = 0
 size_of Loaded = 0
 size_of (Master size) = size
+size_of (Explain size is_live) = size
 
 -- the name of the command
 abbrev pub name_of : Invocation → Text
@@ -36,6 +37,7 @@ name_of (First id size) = codes "server"
 name_of (Joining id) = codes "server"
 name_of Loaded = codes "server"
 name_of (Master size) = codes "master"
+name_of (Explain size is_live) = codes "explain"
 
 -- `--servers N`, a number from 1 to 8, and its text if it isn't given
 abbrev pub servers_rule : Text → Rule
@@ -60,6 +62,10 @@ server_name = codes "server"
 
 abbrev pub master_name : Text
 master_name = codes "master"
+
+-- and that of the command that explains lines
+abbrev pub explain_name : Text
+explain_name = codes "explain"
 
 -- `--journal FILE`
 abbrev pub journal_rule : Rule
@@ -204,8 +210,23 @@ abbrev pub master_app : App
 master_app = with_rule (with_rule (new_app (codes "master")) size_rule) wire_rule
 
 -- the program, with `server` and `master` too
+abbrev pub process_app : App
+process_app = with_command (with_command journal_app server_app) master_app
+
+-- `--live`
+abbrev pub is_live_rule : Rule
+is_live_rule = record (new_rule (codes "live")) {
+  long = Some (codes "live");
+  action = Some SetTrue;
+}
+
+-- `explain [--servers N] [--live]`, on 1 server if no number is given
+abbrev pub explain_app : App
+explain_app = with_rule (command_app (codes "explain") (codes "1")) is_live_rule
+
+-- the program, with `explain` too
 abbrev pub program_app : App
-program_app = with_command (with_command journal_app server_app) master_app
+program_app = with_command process_app explain_app
 
 -- the text of the number of servers that a parse found: "1" where no subcommand stands
 abbrev pub text_in : Option (Text × List Row) → Option Text
@@ -278,16 +299,17 @@ abbrev pub HasFiles : Option (Text × List Row) → Invocation → Type 0
 HasFiles None invocation = IsOnFile invocation → ⊥
 HasFiles (Some found) invocation = AsksFiles found.1 invocation
 
--- it is a process of a chain
+-- it is a process of a chain, or it explains lines
 abbrev pub IsProcess : Invocation → Type 0
 IsProcess (First id size) = ⊤
 IsProcess (Joining id) = ⊤
 IsProcess Loaded = ⊤
 IsProcess (Master size) = ⊤
+IsProcess (Explain size is_live) = ⊤
 IsProcess _ = ⊥
 
 -- it keeps that server of a first chain of so many, that server which joins, the only one which begins with a store, or the master of a
--- first chain of so many
+-- first chain of so many. Or it explains the lines of a script on so many servers, or of a live script.
 abbrev pub AsksProcess : List Row → Invocation → Type 0
 AsksProcess rows (First id size) =
     IsNumber (one_of (codes "id") rows) id × IsNumber (one_of (codes "first") rows) size × (id ≤ size)
@@ -297,6 +319,9 @@ AsksProcess rows (Joining id) =
 AsksProcess rows Loaded =
     IsNumber (one_of (codes "id") rows) 1 × IsNumber (one_of (codes "first") rows) 1 × (one_of (codes "load") rows ≡ Some (codes "false") → ⊥)
 AsksProcess rows (Master size) = IsNumber (one_of (codes "servers") rows) size
+AsksProcess rows (Explain size is_live) =
+    IsNumber (one_of (codes "servers") rows) size × (one_of (codes "live") rows ≡ Some (codes "true") → is_live ≡ true)
+    × (one_of (codes "live") rows ≡ Some (codes "false") → is_live ≡ false)
 AsksProcess rows _ = ⊤
 
 -- a server of that number of a first chain of so many, or the only one, which begins with a store
@@ -341,6 +366,7 @@ LacksJournalIn found (First id size) = ⊥
 LacksJournalIn found (Joining id) = ⊥
 LacksJournalIn found Loaded = ⊥
 LacksJournalIn found (Master size) = ⊥
+LacksJournalIn found (Explain size is_live) = ⊥
 LacksJournalIn found _ = ⊤
 
 -- the number that a text of one digit from 1 to 8 is

@@ -7,7 +7,7 @@ ghost use Rattle.clap.specs.declared.error.kind.ErrorKind.TheVariants.{OutOfMemo
 ghost use Rattle.cq_args.specs.declared.invocation.TheConstants.{ZERO_DIGIT};
 ghost use Rattle.cq_args.specs.declared.invocation.Invocation.{Invocation};
 ghost use Rattle.cq_args.specs.declared.invocation.Invocation.TheVariants as invocations;
-ghost use Rattle.cq_args.specs.CommandLine.{AsksFiles, AsksJournal, AsksProcess, IsAsked, IsFirstIn, IsOnFile, IsProcess, LacksJournal, LacksJournalIn, IsNumber, IsSized, ReadsTurns, asked_invocation, command_app, copy_app, file_app, file_rule, first_rule, id_rule, joining_rule, journal_app, journal_rule, journal_size_rule, live_app, load_rule, master_app, master_name, name_in, name_of, placed_server_app, program_app, server_app, server_name, serving_app, size_rule, session_app, session_name, size_of, tell_store_rule, text_in, turns_rule, turns_text, two_syncs_rule, wire_rule};
+ghost use Rattle.cq_args.specs.CommandLine.{AsksFiles, AsksJournal, AsksProcess, IsAsked, IsFirstIn, IsNumber, IsOnFile, IsProcess, IsSized, LacksJournal, LacksJournalIn, ReadsTurns, asked_invocation, command_app, copy_app, explain_app, explain_name, file_app, file_rule, first_rule, id_rule, is_live_rule, joining_rule, journal_app, journal_rule, journal_size_rule, live_app, load_rule, master_app, master_name, name_in, name_of, placed_server_app, process_app, program_app, server_app, server_name, serving_app, session_app, session_name, size_of, size_rule, tell_store_rule, text_in, turns_rule, turns_text, two_syncs_rule, wire_rule};
 
 use clap::error::ErrorKind;
 use clap::{Arg, ArgAction, ArgMatches, Command, Error, value_parser};
@@ -84,6 +84,11 @@ pub enum Invocation<'a> {
     Master {
         size: ChainSize,
     },
+    /// What is wrong with the lines of the script on standard input, run by so many servers, or of a live script.
+    Explain {
+        size: ChainSize,
+        is_live: bool,
+    },
 }
 
 const REPLAY: &str = "replay";
@@ -101,6 +106,8 @@ const DUMP: &str = "dump";
 const SERVER: &str = "server";
 
 const MASTER: &str = "master";
+
+const EXPLAIN: &str = "explain";
 
 const FILE: &str = "FILE";
 
@@ -444,6 +451,31 @@ fn master<'a>(alloc: Global) -> Result<Command<'a>, AllocError>
     command.arg(wire_option(alloc))
 }
 
+/// Whether a live script is explained, as an option.
+fn live_option<'a>(alloc: Global) -> Arg<'a>
+    ensures rule { rule_of result ≡ is_live_rule }
+    ensures local { result.global ≡ false }
+{
+    Arg::new(alloc, LIVE)
+        .long(LIVE)
+        .action(ArgAction::SetTrue)
+        .help("The lines are those of a live script, for 'cq live'")
+}
+
+/// The subcommand that explains lines, with the number of servers, and whether they are those of a live script, as its options.
+fn explain<'a>(alloc: Global) -> Result<Command<'a>, AllocError>
+    ensures app { IfOk result (λ command. app_of command ≡ explain_app) }
+    ensures local { IfOk result (λ command. (out-Command command).has_globals ≡ false) }
+{
+    let command = command(
+        alloc,
+        EXPLAIN,
+        "Tells what is wrong with lines of the script on standard input, each by a sentence, and goes on behind them",
+        SERVERS_DEFAULT,
+    )?;
+    command.arg(live_option(alloc))
+}
+
 /// The program's command line without those commands that are about a process of a chain.
 fn journal_program<'a>(alloc: Global) -> Result<Command<'a>, AllocError>
     ensures { IfOk result (λ command. app_of command ≡ journal_app) }
@@ -466,14 +498,23 @@ fn journal_program<'a>(alloc: Global) -> Result<Command<'a>, AllocError>
         .subcommand(dump)
 }
 
-/// The program's command line.
-fn program<'a>(alloc: Global) -> Result<Command<'a>, AllocError>
-    ensures { IfOk result (λ command. app_of command ≡ program_app) }
+/// The program's command line without the one that explains lines.
+fn process_program<'a>(alloc: Global) -> Result<Command<'a>, AllocError>
+    ensures { IfOk result (λ command. app_of command ≡ process_app) }
 {
     let program = journal_program(alloc)?;
     let server = server(alloc)?;
     let master = master(alloc)?;
     program.subcommand(server)?.subcommand(master)
+}
+
+/// The program's command line.
+fn program<'a>(alloc: Global) -> Result<Command<'a>, AllocError>
+    ensures { IfOk result (λ command. app_of command ≡ program_app) }
+{
+    let program = process_program(alloc)?;
+    let explain = explain(alloc)?;
+    program.subcommand(explain)
 }
 
 /// How many servers are asked for; one where no subcommand stands.
@@ -621,6 +662,15 @@ fn master_in<'a>(options: &ArgMatches<'a>) -> Option<Invocation<'a>>
     Some(Invocation::Master { size })
 }
 
+/// Which lines are explained, as these options say.
+fn explain_in<'a>(options: &ArgMatches<'a>) -> Option<Invocation<'a>>
+    ensures { IfSome result (λ it. (name_of it ≡ explain_name) × IsProcess it × AsksProcess (rows_of (found_of options.now)) it) }
+{
+    let is_live = options.get_flag(LIVE);
+    let size = ChainSize::new(options.get_one::<u8>(SERVERS)?)?;
+    Some(Invocation::Explain { size, is_live })
+}
+
 /// The process of a chain of this name, as these options say. `None`: there is no such process.
 fn process_in<'a>(name: &str, options: &ArgMatches<'a>) -> Option<Invocation<'a>>
     ensures { IfSome result (λ it. (name_of it ≡ name.now) × IsProcess it × AsksProcess (rows_of (found_of options.now)) it) }
@@ -628,6 +678,7 @@ fn process_in<'a>(name: &str, options: &ArgMatches<'a>) -> Option<Invocation<'a>
     match name {
         SERVER => server_in(options),
         MASTER => master_in(options),
+        EXPLAIN => explain_in(options),
         _ => None,
     }
 }
@@ -641,7 +692,7 @@ fn invocation_in<'a>(matches: &ArgMatches<'a>) -> Option<Invocation<'a>>
 {
     match matches.subcommand() {
         Some((name @ (VERIFY | COPY | DUMP), options)) => file_word_in(name, options),
-        Some((name @ (SERVER | MASTER), options)) => process_in(name, options),
+        Some((name @ (SERVER | MASTER | EXPLAIN), options)) => process_in(name, options),
         _ => serving_in(matches),
     }
 }

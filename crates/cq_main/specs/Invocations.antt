@@ -1,6 +1,7 @@
 -- What the program has done when it has carried out what was asked for.
 use Rattle.std.specs.Prelude.{ℕ, ◌≤◌, Bool, List, Option, ⊤}
 use Rattle.cq_chain.specs.Servers.{first_member, joining}
+use Rattle.cq_main.specs.ExplainOutcomes.{RunsExplain}
 use Rattle.cq_main.specs.KeptOutcomes.{RunsKept}
 use Rattle.cq_main.specs.LiveOutcomes.{RunsLive}
 use Rattle.cq_main.specs.Outcomes.{RunsBy}
@@ -9,7 +10,7 @@ use Rattle.cq_processes.specs.Keeping.{KeepsMaster, KeepsServer}
 use Rattle.cq_script.specs.Replays.{Headlines, Replays}
 use Rattle.cq_script.specs.Sessions.{SessionHeadlines, Sessions}
 use Rattle.cq_args.specs.declared.invocation.Invocation.{Invocation}
-use Rattle.cq_args.specs.declared.invocation.Invocation.TheVariants.{Copy, Dump, First, Joining, Kept, Live, Loaded, Master, Replay, Session, Verify}
+use Rattle.cq_args.specs.declared.invocation.Invocation.TheVariants.{Copy, Dump, Explain, First, Joining, Kept, Live, Loaded, Master, Replay, Session, Verify}
 
 -- a first server is one of its chain
 abbrev pub IsSound : Invocation → Type 0
@@ -41,3 +42,5 @@ Runs (Master size) status unread left reader_failed written output writer_failed
     RunsProcess (KeepsMaster size) status unread left reader_failed written output writer_failed writer_flushed failed old new
 Runs Loaded status unread left reader_failed written output writer_failed writer_flushed failed old new =
     RunsLoaded status unread left reader_failed written output writer_failed writer_flushed failed old new
+Runs (Explain size is_live) status unread left reader_failed written output writer_failed writer_flushed failed old new =
+    RunsExplain status failed old new

@@ -3,6 +3,7 @@ pub mod Outcomes
 pub mod LiveStatuses
 pub mod LiveOutcomes
 pub mod KeptStatuses
+pub mod ExplainOutcomes
 pub mod KeptOutcomes
 pub mod ProcessStatuses
 pub mod ProcessOutcomes

@@ -63,6 +63,9 @@ Commands, and when to use which:
            of its own; once the clients have their answers, all that the servers and the master did is
            put into one order and checked. It tells how many sends were accepted, and that the audit
            is fine
+  explain  for lines that replay or session calls bad or refuses: it tells what is wrong with each, by a
+           sentence such as: line 3, "op": "tak" is none of arrive, ask, put, take, crash, detect, join.
+           With --live, for lines of a live script
   server   to keep one server of a chain whose servers are processes: it is told commands on standard
            input, and tells what comes of them on standard output, as frames of bytes. Another program
            carries messages from one to the other
@@ -74,6 +77,7 @@ Examples:
   cq session --journal queues.journal --journal-size 1024
   cq copy queues.journal monday.journal
   cq live --servers 5 --turns 1000000 < LIVE_SCRIPT
+  cq explain --servers 3 < SCRIPT
   cq server --id 1 --first 3
   cq server --id 4 --joining
   cq master --servers 3
@@ -82,7 +86,7 @@ Exit statuses:
   0  the script, the session or the live run came to its end, or the journal was told or copied, or
      the input of a server or a master ended
   1  the audit of a live run found no order of what was done: 72 AuditRefused
-  2  a usage fault, or a fault of the script: 61 BadLine, 62 LineTooLong, 63 TooManyLines, 74 BadScript
+  2  a usage fault, a line that was explained, or a fault of the script: 61 BadLine, 62 LineTooLong, 63 TooManyLines, 74 BadScript
   3  the reader or the writer failed, or memory ran out: 64 ReadFailed, 65 WriteFailed, 20 NoMemory;
      a live run had no turns left, or no thread: 71 TurnLimit, 73 SpawnFailed; a piece of a message
      was too long for a frame: 75 Unanswered

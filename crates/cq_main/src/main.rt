@@ -2,6 +2,7 @@
 //! on threads of their own, and writes what comes of it on standard output.
 #![tactic(auto)]
 
+mod explain;
 mod guide;
 mod kept;
 mod live;

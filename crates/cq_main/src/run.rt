@@ -14,6 +14,7 @@ ghost use Rattle.cq_args.specs.declared.invocation.Invocation.{Invocation};
 ghost use Rattle.cq_lines.specs.declared.fault.ScriptFault.TheVariants.{NoMemory};
 ghost use Rattle.std.specs.declared.io.ErrorKind.TheVariants.{OutOfMemory as NoRoom};
 
+use crate::explain::run_explain;
 use crate::guide::GUIDE;
 use crate::kept::{KeptSessions, run_copy, run_dump, run_journal, run_verify};
 use crate::live::run_live;
@@ -114,6 +115,9 @@ fn carry_out<H: Threads + Wait + Sync + KeptSessions, R: Read, W: Write, E: Writ
         Invocation::Joining { id } => run_joining(alloc, *id, reader, output, errors),
         Invocation::Loaded => run_loaded(alloc, reader, output, errors),
         Invocation::Master { size } => run_master(alloc, *size, reader, output, errors),
+        Invocation::Explain { size, is_live } => {
+            run_explain(alloc, *size, *is_live, reader, output, errors)
+        }
     }
 }
 

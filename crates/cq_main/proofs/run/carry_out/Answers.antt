@@ -38,3 +38,6 @@ run_first-requires g c = subst (λ it. IsSound it) c.in-First.is c.requires.soun
 
 pub returns-in-Loaded : goal.returns-in-Loaded
 returns-in-Loaded g c = rw c.in-Loaded.is c.run_loaded.ensures
+
+pub returns-in-Explain : goal.returns-in-Explain
+returns-in-Explain g c = rw c.in-Explain.is c.run_explain.ensures
