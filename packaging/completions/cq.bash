@@ -12,8 +12,16 @@ _cq() {
             COMPREPLY=($(compgen -W "--servers --journal --journal-size --two-syncs --tell-store --help" -- "$word"))
         fi
         ;;
+    server)
+        if [ "${COMP_WORDS[COMP_CWORD - 1]}" = --journal ]; then
+            COMPREPLY=($(compgen -f -- "$word"))
+        else
+            COMPREPLY=($(compgen -W "--id --first --joining --load --journal --journal-size --wire --help" -- "$word"))
+        fi
+        ;;
+    master) COMPREPLY=($(compgen -W "--servers --wire --help" -- "$word")) ;;
     verify | copy | dump) COMPREPLY=($(compgen -f -- "$word") $(compgen -W "--help" -- "$word")) ;;
-    *) [ "$COMP_CWORD" -gt 1 ] || COMPREPLY=($(compgen -W "replay session live explain verify copy dump help --help --version" -- "$word")) ;;
+    *) [ "$COMP_CWORD" -gt 1 ] || COMPREPLY=($(compgen -W "replay session live explain verify copy dump server master help --help --version" -- "$word")) ;;
     esac
 }
 complete -F _cq cq

@@ -1,9 +1,9 @@
 -- What a parse found says what is asked for.
-use Rattle.std.proofs.Common.{ℕ, zero, suc, ◌+◌, ◌<◌, ◌&&◌, Bool, true, false, List, [], ◌∷◌, Option, Some, None, refl, codes, ap, sym, subst, inl, inr, ◌≡◌, ◌≢◌, ◌⊎◌, ◌∙◌, arith}
+use Rattle.std.proofs.Common.{ℕ, zero, suc, ◌+◌, ◌<◌, ◌&&◌, Bool, Bor, true, false, List, [], ◌∷◌, Option, Some, None, refl, codes, ap, sym, subst, inl, inr, ◌≡◌, ◌≢◌, ◌⊎◌, ◌∙◌, arith}
 use Rattle.std.specs.Prelude.{IfSome, option_map, unwrap_or, Ok, Err, Result}
 use Rattle.std.specs.Str.Parse.{IsNumeral, digits_value, without_leading_plus}
 use Rattle.clap.specs.Matches.{ReadsOne, one_text}
-use Rattle.clap.specs.Words.{App, HasKind, IsAmong, Kinds, Row, Text, fault_of, is_simple, is_simple_and_free, kind_of, one_of, rows_of}
+use Rattle.clap.specs.Words.{App, HasKind, IsAmong, Kinds, Row, Text, fault_of, first_of, first_value, is_simple, is_simple_and_free, kind_of, one_of, rows_of}
 use Rattle.clap.specs.declared.error.Error.{Error}
 use Rattle.clap.specs.declared.error.kind.ErrorKind.{ErrorKind}
 use Rattle.clap.specs.declared.error.kind.ErrorKind.TheVariants.{OutOfMemory}
@@ -11,7 +11,7 @@ use Rattle.std.specs.List.{list_all}
 use Rattle.cq_args.specs.ArgFaults.{all_are}
 use Rattle.clap.specs.declared.parser.matches.Found.{Found}
 use Rattle.clap.proofs.OnLiterals.{clap_on_literals}
-use Rattle.clap.proofs.WalkLemmas.{one_text-rows}
+use Rattle.clap.proofs.WalkLemmas.{first_value-rows, one_text-rows}
 use Rattle.cq_args.specs.CommandLine.{IsNumber, IsSized, program_app, text_in, turns_text}
 
 pub some_same : {A : Type 0} {x y : A} → Some x ≡ Some y → x ≡ y
@@ -65,6 +65,15 @@ pub number_found : {E : Type 0} (gives : Text → Result ℕ E → Type 0)
     → read ≡ Some n → m ≡ n → IsNumber (one_of id (rows_of f)) m
 number_found gives tells id f read n m none value is same =
     if_some read m (IsNumber (one_of id (rows_of f))) (is ∙ ap Some (sym same)) (number_read gives tells id (rows_of f) f read refl none value)
+
+-- the number that was read, or the one for none
+pub read_or : (text : Option Text) (read : Option ℕ) (m : ℕ) → m ≡ unwrap_or read 256 → IfSome read (IsNumber text) → IsNumber text m ⊎ (m ≡ 256)
+read_or text (Some n) m is number = inl (subst (IsNumber text) (sym is) number)
+read_or text None m is number = inr is
+
+-- no file of a journal was named
+pub no_path : (f : Found) (path : Option (Bor (List ℕ))) → option_map (λ s. s.now) path ≡ first_value f (codes "journal") → path ≡ None → first_of (codes "journal") (rows_of f) ≡ None
+no_path f path is none = sym (first_value-rows f (codes "journal")) ∙ sym is ∙ ap (option_map (λ s. s.now)) none
 
 rows_same : (f : Found) (p : Text × List Row) → Some (rows_of f) ≡ option_map (λ p. p.1) (Some p) → rows_of f ≡ p.1
 rows_same f p is = some_same is

@@ -7,7 +7,7 @@ use Rattle.clap.specs.Simple.{on_top}
 use Rattle.clap.specs.declared.builder.action.ArgAction.TheVariants.{SetTrue}
 use Rattle.clap.specs.declared.builder.value_parser.ValueParser.TheVariants.{Signed, Unsigned}
 use Rattle.cq_args.specs.declared.invocation.Invocation.{Invocation}
-use Rattle.cq_args.specs.declared.invocation.Invocation.TheVariants.{Copy, Dump, Explain, First, Joining, Kept, Live, Loaded, Master, Replay, Session, Verify}
+use Rattle.cq_args.specs.declared.invocation.Invocation.TheVariants.{Copy, Dump, Explain, First, Joining, Kept, KeptServer, Live, Loaded, Master, Replay, Session, Verify}
 
 -- how many servers the chain begins with; no command about a journal's file has any, and none about a server that joins
 abbrev pub size_of : Invocation → ℕ
@@ -21,6 +21,7 @@ size_of (Dump path) = 0
 size_of (First id size) = size
 size_of (Joining id) = 0
 size_of Loaded = 0
+size_of (KeptServer path mebibytes) = 0
 size_of (Master size) = size
 size_of (Explain size is_live) = size
 
@@ -36,6 +37,7 @@ name_of (Dump path) = codes "dump"
 name_of (First id size) = codes "server"
 name_of (Joining id) = codes "server"
 name_of Loaded = codes "server"
+name_of (KeptServer path mebibytes) = codes "server"
 name_of (Master size) = codes "master"
 name_of (Explain size is_live) = codes "explain"
 
@@ -192,9 +194,13 @@ wire_rule = record (new_rule (codes "wire")) {
 abbrev pub placed_server_app : App
 placed_server_app = with_rule (with_rule (with_rule (with_rule (new_app (codes "server")) id_rule) first_rule) joining_rule) load_rule
 
+-- and `[--journal FILE] [--journal-size MIB]`
+abbrev pub stored_server_app : App
+stored_server_app = with_rule (with_rule placed_server_app journal_rule) journal_size_rule
+
 -- and `[--wire V]`
 abbrev pub server_app : App
-server_app = with_rule placed_server_app wire_rule
+server_app = with_rule stored_server_app wire_rule
 
 -- `--servers N`, a number from 1 to 8, which has to be there
 abbrev pub size_rule : Rule
@@ -285,6 +291,7 @@ HasServers found (Dump path) = ⊤
 HasServers found (First id size) = ⊤
 HasServers found (Joining id) = ⊤
 HasServers found Loaded = ⊤
+HasServers found (KeptServer path mebibytes) = ⊤
 HasServers found invocation = IsSized found (size_of invocation)
 
 -- these files are named, if the command is about any
@@ -304,20 +311,32 @@ abbrev pub IsProcess : Invocation → Type 0
 IsProcess (First id size) = ⊤
 IsProcess (Joining id) = ⊤
 IsProcess Loaded = ⊤
+IsProcess (KeptServer path mebibytes) = ⊤
 IsProcess (Master size) = ⊤
 IsProcess (Explain size is_live) = ⊤
 IsProcess _ = ⊥
 
--- it keeps that server of a first chain of so many, that server which joins, the only one which begins with a store, or the master of a
--- first chain of so many. Or it explains the lines of a script on so many servers, or of a live script.
-abbrev pub AsksProcess : List Row → Invocation → Type 0
-AsksProcess rows (First id size) =
+-- without a journal, it keeps that server of a first chain of so many, that server which joins, or the only one which begins with a store
+abbrev pub AsksServer : List Row → Invocation → Type 0
+AsksServer rows (First id size) =
     IsNumber (one_of (codes "id") rows) id × IsNumber (one_of (codes "first") rows) size × (id ≤ size)
     × (one_of (codes "joining") rows ≡ Some (codes "true") → ⊥) × (one_of (codes "load") rows ≡ Some (codes "true") → ⊥)
-AsksProcess rows (Joining id) =
+AsksServer rows (Joining id) =
     IsNumber (one_of (codes "id") rows) id × (one_of (codes "joining") rows ≡ Some (codes "false") → ⊥) × (one_of (codes "load") rows ≡ Some (codes "true") → ⊥)
-AsksProcess rows Loaded =
+AsksServer rows Loaded =
     IsNumber (one_of (codes "id") rows) 1 × IsNumber (one_of (codes "first") rows) 1 × (one_of (codes "load") rows ≡ Some (codes "false") → ⊥)
+AsksServer rows _ = ⊥
+
+-- So it keeps a server where no journal is named, or the only one of a first chain with a journal in that file: of 256 mebibytes if none
+-- are given. Or it keeps the master of a first chain of so many servers, or explains the lines of a script on so many, or of a live script.
+abbrev pub AsksProcess : List Row → Invocation → Type 0
+AsksProcess rows (First id size) = AsksServer rows (First id size) × (first_of (codes "journal") rows ≡ None)
+AsksProcess rows (Joining id) = AsksServer rows (Joining id) × (first_of (codes "journal") rows ≡ None)
+AsksProcess rows Loaded = AsksServer rows Loaded × (first_of (codes "journal") rows ≡ None)
+AsksProcess rows (KeptServer path mebibytes) =
+    (first_of (codes "journal") rows ≡ Some path.now) × IsNumber (one_of (codes "id") rows) 1 × IsNumber (one_of (codes "first") rows) 1
+    × (IsNumber (one_of (codes "journal-size") rows) mebibytes ⊎ (mebibytes ≡ 256))
+    × (one_of (codes "joining") rows ≡ Some (codes "true") → ⊥) × (one_of (codes "load") rows ≡ Some (codes "true") → ⊥)
 AsksProcess rows (Master size) = IsNumber (one_of (codes "servers") rows) size
 AsksProcess rows (Explain size is_live) =
     IsNumber (one_of (codes "servers") rows) size × (one_of (codes "live") rows ≡ Some (codes "true") → is_live ≡ true)
@@ -365,6 +384,7 @@ LacksJournalIn found (Dump path) = ⊥
 LacksJournalIn found (First id size) = ⊥
 LacksJournalIn found (Joining id) = ⊥
 LacksJournalIn found Loaded = ⊥
+LacksJournalIn found (KeptServer path mebibytes) = ⊥
 LacksJournalIn found (Master size) = ⊥
 LacksJournalIn found (Explain size is_live) = ⊥
 LacksJournalIn found _ = ⊤

@@ -1,13 +1,13 @@
 //! What the arguments of the command line ask for.
-ghost use Rattle.std.specs.Prelude.{◌≡◌, ◌≢◌, ℕ, ◌<◌, ◌≤◌, ◌+◌, ◌^◌, [], ◌∷◌, IfOk, IfSome, IsErrAnd, MatchResult, Some, false, map};
+ghost use Rattle.std.specs.Prelude.{◌≡◌, ◌≢◌, ℕ, ◌<◌, ◌≤◌, ◌+◌, ◌^◌, [], ◌∷◌, codes, IfOk, IfSome, IsErrAnd, MatchResult, Some, false, map};
 ghost use Rattle.std.specs.Str.Parse.{IsNumeral, digits_value, without_leading_plus};
-ghost use Rattle.clap.specs.Words.{HasKind, Text, app_of, fault_of, found_of, kind_of, rows_of, rule_of, subcommand_of, subcommand_rows_of};
+ghost use Rattle.clap.specs.Words.{HasKind, Text, app_of, fault_of, first_of, found_of, kind_of, rows_of, rule_of, subcommand_of, subcommand_rows_of};
 ghost use Rattle.clap.specs.declared.builder.command.Command.TheViews.{out-Command};
 ghost use Rattle.clap.specs.declared.error.kind.ErrorKind.TheVariants.{OutOfMemory};
 ghost use Rattle.cq_args.specs.declared.invocation.TheConstants.{ZERO_DIGIT};
 ghost use Rattle.cq_args.specs.declared.invocation.Invocation.{Invocation};
 ghost use Rattle.cq_args.specs.declared.invocation.Invocation.TheVariants as invocations;
-ghost use Rattle.cq_args.specs.CommandLine.{AsksFiles, AsksJournal, AsksProcess, IsAsked, IsFirstIn, IsNumber, IsOnFile, IsProcess, IsSized, LacksJournal, LacksJournalIn, ReadsTurns, asked_invocation, command_app, copy_app, explain_app, explain_name, file_app, file_rule, first_rule, id_rule, is_live_rule, joining_rule, journal_app, journal_rule, journal_size_rule, live_app, load_rule, master_app, master_name, name_in, name_of, placed_server_app, process_app, program_app, server_app, server_name, serving_app, session_app, session_name, size_of, size_rule, tell_store_rule, text_in, turns_rule, turns_text, two_syncs_rule, wire_rule};
+ghost use Rattle.cq_args.specs.CommandLine.{AsksFiles, AsksJournal, AsksProcess, AsksServer, IsAsked, IsFirstIn, IsNumber, IsOnFile, IsProcess, IsSized, LacksJournal, LacksJournalIn, ReadsTurns, asked_invocation, command_app, copy_app, explain_app, explain_name, file_app, file_rule, first_rule, id_rule, is_live_rule, joining_rule, journal_app, journal_rule, journal_size_rule, live_app, load_rule, master_app, master_name, name_in, name_of, placed_server_app, process_app, program_app, server_app, server_name, stored_server_app, serving_app, session_app, session_name, size_of, size_rule, tell_store_rule, text_in, turns_rule, turns_text, two_syncs_rule, wire_rule};
 
 use clap::error::ErrorKind;
 use clap::{Arg, ArgAction, ArgMatches, Command, Error, value_parser};
@@ -80,6 +80,12 @@ pub enum Invocation<'a> {
     },
     /// A process that keeps the only server of a first chain, which begins with a store that it is told.
     Loaded,
+    /// A process that keeps the only server of a first chain, whose entries a journal in a file keeps, of so many mebibytes where it
+    /// is made.
+    KeptServer {
+        path: &'a str,
+        mebibytes: u64,
+    },
     /// A process that keeps the master of a first chain of so many servers.
     Master {
         size: ChainSize,
@@ -418,12 +424,35 @@ fn placed_server<'a>(alloc: Global) -> Result<Command<'a>, AllocError>
     command.arg(load_option(alloc))
 }
 
+/// That subcommand, with the journal of a server as its options, too.
+fn stored_server<'a>(alloc: Global) -> Result<Command<'a>, AllocError>
+    ensures app { IfOk result (λ command. app_of command ≡ stored_server_app) }
+    ensures local { IfOk result (λ command. (out-Command command).has_globals ≡ false) }
+{
+    let command = placed_server(alloc)?;
+    let command = command.arg(entries_option(alloc))?;
+    command.arg(journal_size_option(alloc))
+}
+
+/// The name of the file of a server's journal, as an option.
+fn entries_option<'a>(alloc: Global) -> Arg<'a>
+    ensures rule { rule_of result ≡ journal_rule }
+    ensures local { result.global ≡ false }
+{
+    Arg::new(alloc, JOURNAL)
+        .long(JOURNAL)
+        .value_name("FILE")
+        .help(
+            "Keeps its entries in this file before anything is told of them, and begins behind those that it has; of a chain of one",
+        )
+}
+
 /// The subcommand for a process that keeps a server.
 fn server<'a>(alloc: Global) -> Result<Command<'a>, AllocError>
     ensures app { IfOk result (λ command. app_of command ≡ server_app) }
     ensures local { IfOk result (λ command. (out-Command command).has_globals ≡ false) }
 {
-    let command = placed_server(alloc)?;
+    let command = stored_server(alloc)?;
     command.arg(wire_option(alloc))
 }
 
@@ -640,10 +669,10 @@ fn first_in<'a>(id: ServerId, size: ChainSize, is_loading: bool) -> Option<Invoc
     Some(Invocation::First { id, size })
 }
 
-/// The process that keeps a server, as these options say. `None`: it is neither a first server nor one that joins, or both, its
-/// number is above the chain's size, or it begins with a store and isn't the only one.
-fn server_in<'a>(options: &ArgMatches<'a>) -> Option<Invocation<'a>>
-    ensures { IfSome result (λ it. (name_of it ≡ server_name) × IsProcess it × AsksProcess (rows_of (found_of options.now)) it) }
+/// The process that keeps a server without a journal, as these options say. `None`: it is neither a first server nor one that joins,
+/// or both, its number is above the chain's size, or it begins with a store and isn't the only one.
+fn unkept_server_in<'a>(options: &ArgMatches<'a>) -> Option<Invocation<'a>>
+    ensures { IfSome result (AsksServer (rows_of (found_of options.now))) }
 {
     let id = ServerId::new(options.get_one::<u32>(ID)?)?;
     let size = options.get_one::<u8>(FIRST);
@@ -652,6 +681,45 @@ fn server_in<'a>(options: &ArgMatches<'a>) -> Option<Invocation<'a>>
         return joining_in(id, size, is_loading);
     }
     first_in(id, ChainSize::new(size?)?, is_loading)
+}
+
+/// The process that keeps a server with a journal in that file, as the other options say. `None`: it isn't the only server of a first
+/// chain, or it begins with a store that it is told.
+fn kept_server_in<'a>(options: &ArgMatches<'a>, path: &'a str) -> Option<Invocation<'a>>
+    requires { first_of (codes "journal") (rows_of (found_of options.now)) ≡ Some path.now }
+    ensures { IfSome result (λ it. (name_of it ≡ server_name) × IsProcess it × AsksProcess (rows_of (found_of options.now)) it) }
+{
+    if options.get_flag(JOINING) {
+        return None;
+    }
+    if options.get_flag(LOAD) {
+        return None;
+    }
+    let id = options.get_one::<u32>(ID)?;
+    let size = options.get_one::<u8>(FIRST)?;
+    if id != 1 {
+        return None;
+    }
+    if size != 1 {
+        return None;
+    }
+    let mebibytes = options.get_one::<u64>(JOURNAL_SIZE);
+    let mebibytes = mebibytes.unwrap_or(JOURNAL_SIZE_DEFAULT);
+    Some(Invocation::KeptServer { path, mebibytes })
+}
+
+/// The process that keeps a server, as these options say. `None`: they don't go with each other, or the size of a journal is given
+/// without its file.
+fn server_in<'a>(options: &ArgMatches<'a>) -> Option<Invocation<'a>>
+    ensures { IfSome result (λ it. (name_of it ≡ server_name) × IsProcess it × AsksProcess (rows_of (found_of options.now)) it) }
+{
+    if let Some(path) = options.get_str(JOURNAL) {
+        return kept_server_in(options, path);
+    }
+    match options.get_one::<u64>(JOURNAL_SIZE) {
+        Some(_) => None,
+        None => unkept_server_in(options),
+    }
 }
 
 /// The process that keeps the master, as these options say.
@@ -713,6 +781,6 @@ pub fn invocation_of<'a, S: AsStr>(alloc: Global, args: &'a [S]) -> Result<Invoc
     }
     Err(program.error(
         ErrorKind::InvalidValue,
-        "a number is missing or out of its range, or '--journal FILE' is missing, or a server has not just one of '--first SIZE' and '--joining'",
+        "a number is missing or out of its range, or '--journal FILE' is missing, or a server has not just one of '--first SIZE' and '--joining', or one that isn't alone has a journal",
     )?)
 }

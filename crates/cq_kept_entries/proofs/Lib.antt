@@ -2,4 +2,4 @@ mod Added
 mod Listed
 pub mod Readings
 mod Restored
-mod Rewritten
+pub mod Rewritten

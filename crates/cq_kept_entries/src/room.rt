@@ -10,7 +10,7 @@ use cq_disk::Device;
 use cq_records::HEAD_LENGTH;
 
 impl<D: Device> KeptEntries<D> {
-    ghost use Rattle.cq_kept_entries.specs.Kept.{entries_journal};
+    ghost use Rattle.cq_kept_entries.specs.Kept.{added_text, entries_journal};
     ghost use Rattle.cq_kept_entries.specs.within.Room.{FitsHere};
 
     /// Whether there is room for an entry of this class whose piece has at most so many bytes, behind those that were added: in the
@@ -31,6 +31,18 @@ impl<D: Device> KeptEntries<D> {
             return true;
         }
         self.journal.has_spare()
+    }
+
+    /// Notes that an entry of this class whose piece has at most so many bytes found no room: where that is for want of a region, the
+    /// next rewrite is due earlier.
+    pub fn note_no_room(&mut self, class: EntryClass, len: usize)
+        requires { IsJournal (entries_journal self.old) }
+        ensures journal { entries_journal self.new ≡ entries_journal self.old }
+        ensures text { added_text self.new ≡ added_text self.old }
+    {
+        if self.leaves_space(class, len) {
+            self.schedule.tighten();
+        }
     }
 
     /// How many bytes behind the root are used: all of each region that counts, but of the last one what it has.

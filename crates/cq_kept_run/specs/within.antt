@@ -4,3 +4,4 @@ pub mod Dumps
 pub mod Looks
 pub mod Runs
 pub mod Told
+pub mod Servers

@@ -7,6 +7,7 @@ ghost use Rattle.cq_kept_run.specs.within.Contents.{IsContentsOf, base_line};
 ghost use Rattle.cq_kept_run.specs.within.Dumps.{Dumps, DumpsBase, DumpsBaseOf};
 
 use crate::KeptFault;
+use crate::kind::tell_apart;
 use crate::looking::read_at_once;
 use crate::source::{Opens, Source};
 use crate::store::tell_store;
@@ -28,7 +29,10 @@ pub fn dump<W: Write>(
 ) -> Result<(), KeptFault>
     requires { is_failed output.old ≡ false }
 {
-    dump_source(rt.alloc(), &Source { rt, path }, output)
+    match dump_source(rt.alloc(), &Source { rt, path }, output) {
+        Ok(()) => Ok(()),
+        Err(fault) => Err(tell_apart(rt, path, fault)),
+    }
 }
 
 /// Writes the lines of a journal.

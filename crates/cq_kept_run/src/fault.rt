@@ -4,7 +4,9 @@ ghost use Rattle.cq_kept_run.specs.Faults.{code_of, name_of};
 
 use cq_base::NoMemory;
 use cq_disk::{DeviceFault, OpenFault as FileFault};
+use cq_frame_loop::LoopFault;
 use cq_journal::{OpenFault, RegionFault};
+use cq_kept_entries::StartFault as EntriesFault;
 use cq_kept_session::{ServeFault, StartFault, TakeFault};
 use cq_lines::ScriptFault;
 use cq_records::{LogFault, ReadFault};
@@ -26,6 +28,9 @@ pub enum JournalFault {
     /// The file is none.
     #[error("there is no journal in the file")]
     NotAJournal,
+    /// The file has a journal of something else: of a server's entries where lines are wanted, or of lines where entries are.
+    #[error("the journal has something else")]
+    OtherJournal,
 }
 
 impl JournalFault {
@@ -38,6 +43,7 @@ impl JournalFault {
             JournalFault::Damaged(_) => 67,
             JournalFault::Busy => 68,
             JournalFault::NotAJournal => 69,
+            JournalFault::OtherJournal => 79,
         }
     }
 
@@ -50,6 +56,59 @@ impl JournalFault {
             JournalFault::Damaged(_) => "JournalDamaged",
             JournalFault::Busy => "JournalBusy",
             JournalFault::NotAJournal => "NotAJournal",
+            JournalFault::OtherJournal => "OtherJournal",
+        }
+    }
+}
+
+/// Why a server ends whose entries a journal keeps, before its reader does.
+#[derive(Clone, Copy, Debug, PartialEq, Eq, Error)]
+pub enum ServerFault {
+    #[error("{0}")]
+    Loop(LoopFault),
+    #[error("{0}")]
+    Journal(JournalFault),
+}
+
+impl From<KeptFault> for ServerFault {
+    fn from(fault: KeptFault) -> ServerFault {
+        match fault {
+            KeptFault::Script(fault) => ServerFault::from(fault),
+            KeptFault::Journal(fault) => ServerFault::Journal(fault),
+        }
+    }
+}
+
+impl From<ScriptFault> for ServerFault {
+    fn from(fault: ScriptFault) -> ServerFault {
+        match fault {
+            ScriptFault::ReadFailed => ServerFault::Loop(LoopFault::ReadFailed),
+            ScriptFault::WriteFailed => ServerFault::Loop(LoopFault::WriteFailed),
+            _ => ServerFault::Loop(LoopFault::NoMemory),
+        }
+    }
+}
+
+impl From<DeviceFault> for ServerFault {
+    fn from(fault: DeviceFault) -> ServerFault {
+        ServerFault::from(KeptFault::from(fault))
+    }
+}
+
+impl From<LogFault> for ServerFault {
+    fn from(fault: LogFault) -> ServerFault {
+        ServerFault::from(KeptFault::from(fault))
+    }
+}
+
+impl From<EntriesFault> for ServerFault {
+    fn from(fault: EntriesFault) -> ServerFault {
+        match fault {
+            EntriesFault::Open(fault) => ServerFault::from(KeptFault::from(fault)),
+            EntriesFault::Read(fault) => ServerFault::from(KeptFault::from(fault)),
+            EntriesFault::NoEntries => ServerFault::Journal(JournalFault::OtherJournal),
+            EntriesFault::NoMemory => ServerFault::Loop(LoopFault::NoMemory),
+            EntriesFault::Write(fault) => ServerFault::from(fault),
         }
     }
 }

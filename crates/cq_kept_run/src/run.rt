@@ -7,6 +7,7 @@ ghost use Rattle.cq_kept_run.specs.within.Runs.{Serving, TellsRest};
 
 use crate::blank::{fill, is_blank};
 use crate::fault::{JournalFault, KeptFault};
+use crate::kind::tell_apart;
 use crate::sizes::{HALF, REGION};
 use crate::store::{settle, tell_store};
 use cq_base::ChainSize;
@@ -40,11 +41,14 @@ pub fn run_kept<R: Read, W: Write>(
         TornWrites::OldOrNew
     };
     let device = open_or_make(rt, path, mebibytes, torn)?;
-    run_on(rt.alloc(), size, device, tells_store, reader, output)
+    match run_on(rt.alloc(), size, device, tells_store, reader, output) {
+        Ok(()) => Ok(()),
+        Err(fault) => Err(tell_apart(rt, path, fault)),
+    }
 }
 
 /// Opens the file, or makes one of so many mebibytes where there is none.
-fn open_or_make(
+pub(crate) fn open_or_make(
     rt: &HostRuntime,
     path: &str,
     mebibytes: u64,

@@ -6,6 +6,7 @@ ghost use Rattle.cq_kept_session.specs.declared.contents.Contents.{Contents as T
 ghost use Rattle.cq_kept_run.specs.within.Contents.{IsContentsOf, TellsContents, front_text, header_text, numbers_text};
 
 use crate::KeptFault;
+use crate::kind::tell_apart;
 use crate::looking::read_at_once;
 use crate::source::{Opens, Source};
 use cq_disk::Device;
@@ -26,7 +27,10 @@ pub fn verify<W: Write>(
 ) -> Result<(), KeptFault>
     requires { is_failed output.old ≡ false }
 {
-    verify_source(rt.alloc(), &Source { rt, path }, output)
+    match verify_source(rt.alloc(), &Source { rt, path }, output) {
+        Ok(()) => Ok(()),
+        Err(fault) => Err(tell_apart(rt, path, fault)),
+    }
 }
 
 /// Tells what a journal has.

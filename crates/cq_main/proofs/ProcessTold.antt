@@ -3,7 +3,7 @@ use Rattle.std.proofs.Common.{ℕ, List, [], ◌∷◌, ◌++◌, Option, None, 
 use Rattle.std.specs.Prelude.{decimal}
 use Rattle.clap.specs.Words.{Row, Text}
 use Rattle.cq_args.specs.declared.invocation.Invocation.{Invocation}
-use Rattle.cq_args.specs.declared.invocation.Invocation.TheVariants.{Copy, Dump, Explain, First, Joining, Kept, Live, Loaded, Master, Replay, Session, Verify}
+use Rattle.cq_args.specs.declared.invocation.Invocation.TheVariants.{Copy, Dump, Explain, First, Joining, Kept, KeptServer, Live, Loaded, Master, Replay, Session, Verify}
 use Rattle.cq_args.specs.CommandLine.{IsAsked}
 use Rattle.cq_frame_loop.specs.declared.fault.LoopFault.{LoopFault}
 use Rattle.cq_main.specs.Invocations.{IsSound}
@@ -16,7 +16,7 @@ is_process_told fault code name code_is name_is = rw (code_is, name_is) refl
 -- a first server that is asked for is one of its chain
 pub asked_sound : (found : Option (Text × List Row)) (invocation : Invocation) → IsAsked found invocation → IsSound invocation
 asked_sound None (First id size) h = absurd (h.5 tt)
-asked_sound (Some f) (First id size) h = h.5.2
+asked_sound (Some f) (First id size) h = h.5.0.2
 asked_sound found (Replay size) h = tt
 asked_sound found (Session size) h = tt
 asked_sound found (Kept size journal) h = tt
@@ -26,5 +26,6 @@ asked_sound found (Copy path to) h = tt
 asked_sound found (Dump path) h = tt
 asked_sound found (Joining id) h = tt
 asked_sound found Loaded h = tt
+asked_sound found (KeptServer path mebibytes) h = tt
 asked_sound found (Master size) h = tt
 asked_sound found (Explain size is_live) h = tt

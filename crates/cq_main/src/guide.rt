@@ -68,7 +68,9 @@ Commands, and when to use which:
            With --live, for lines of a live script
   server   to keep one server of a chain whose servers are processes: it is told commands on standard
            input, and tells what comes of them on standard output, as frames of bytes. Another program
-           carries messages from one to the other
+           carries messages from one to the other. The only server of a chain may have --journal FILE:
+           its entries are kept in this file before anything is told of them, and a later one begins
+           behind them
   master   to keep the master of such a chain
 
 Examples:
@@ -80,6 +82,7 @@ Examples:
   cq explain --servers 3 < SCRIPT
   cq server --id 1 --first 3
   cq server --id 4 --joining
+  cq server --id 1 --first 1 --journal queue.journal
   cq master --servers 3
 
 Exit statuses:
@@ -90,8 +93,8 @@ Exit statuses:
   3  the reader or the writer failed, or memory ran out: 64 ReadFailed, 65 WriteFailed, 20 NoMemory;
      a live run had no turns left, or no thread: 71 TurnLimit, 73 SpawnFailed; a piece of a message
      was too long for a frame: 75 Unanswered
-  4  the journal of a session: 66 JournalFailed, as where a write or a sync of it failed, or where a
-     copy is there already, 67 JournalDamaged, 68 JournalBusy, as another session has it, or 69
-     NotAJournal
+  4  the journal of a session or a server: 66 JournalFailed, as where a write or a sync of it failed,
+     or where a copy is there already, 67 JournalDamaged, 68 JournalBusy, as another one has it, 69
+     NotAJournal, or 79 OtherJournal, as one of a server where one of a session is wanted
   5  a server that was to begin with a store was told none: 78 NotLoaded
 A fault is told by one line on standard error, such as "cq: 61 BadLine line 3"."#;

@@ -1,13 +1,17 @@
-//! Sessions with a journal, and what is told or copied of one: how they are run, how their faults are told, and the status that the program ends with.
+//! Sessions and servers with a journal, and what is told or copied of one: how they are run, how their faults are told, and the status that
+//! the program ends with.
 ghost use Rattle.std.specs.Prelude.{◌≡◌, false};
 ghost use Rattle.cq_lines.specs.Checks.{inner_of, is_failed};
-ghost use Rattle.cq_main.specs.KeptOutcomes.{EndsAtJournal, RunsKept};
+ghost use Rattle.cq_main.specs.KeptOutcomes.{EndsAtJournal, RunsKept, RunsKeptServer};
 ghost use Rattle.cq_main.specs.KeptStatuses.{fault_place};
 
+use crate::process_fault::report_process;
 use crate::report::report;
 use cq_args::JournalOptions;
 use cq_base::ChainSize;
-use cq_kept_run::{JournalFault, KeptFault, copy, dump, run_kept, verify};
+use cq_kept_run::{
+    JournalFault, KeptFault, ServerFault, copy, dump, run_kept, run_kept_server, verify,
+};
 use cq_script::Checked;
 use std::io::{Read, Write};
 
@@ -24,6 +28,16 @@ pub trait KeptSessions {
         reader: &mut Checked<R>,
         output: &mut Checked<W>,
     ) -> Result<(), KeptFault>
+        requires { is_failed output.old ≡ false };
+
+    /// Keeps the only server of a chain, and its entries in a file, of so many mebibytes where it is made.
+    fn serve<R: Read, W: Write>(
+        &self,
+        path: &str,
+        mebibytes: u64,
+        reader: &mut Checked<R>,
+        output: &mut Checked<W>,
+    ) -> Result<(), ServerFault>
         requires { is_failed output.old ≡ false };
 
     /// Tells what the journal in a file has.
@@ -58,6 +72,16 @@ impl KeptSessions for HostRuntime {
         )
     }
 
+    fn serve<R: Read, W: Write>(
+        &self,
+        path: &str,
+        mebibytes: u64,
+        reader: &mut Checked<R>,
+        output: &mut Checked<W>,
+    ) -> Result<(), ServerFault> {
+        run_kept_server(self, path, mebibytes, reader, output)
+    }
+
     fn verify<W: Write>(&self, path: &str, output: &mut Checked<W>) -> Result<(), KeptFault> {
         verify(self, path, output)
     }
@@ -77,7 +101,10 @@ fn place_of(fault: &JournalFault) -> Option<usize>
 {
     match fault {
         JournalFault::Damaged(place) => *place,
-        JournalFault::Failed | JournalFault::Busy | JournalFault::NotAJournal => None,
+        JournalFault::Failed
+        | JournalFault::Busy
+        | JournalFault::NotAJournal
+        | JournalFault::OtherJournal => None,
     }
 }
 
@@ -109,6 +136,21 @@ pub fn run_journal<H: KeptSessions, R: Read, W: Write, E: Write>(
     ensures { RunsKept result (is_failed errors.new) (E.contents (inner_of errors.old)) (E.contents (inner_of errors.new)) }
 {
     end_kept(&rt.run(size, journal, reader, output), errors)
+}
+
+/// Keeps the only server of a chain, whose entries a file keeps, tells its fault, and gives the status with which the program ends.
+pub fn run_server<H: KeptSessions, R: Read, W: Write, E: Write>(
+    rt: &H,
+    path: &str,
+    mebibytes: u64,
+    reader: &mut Checked<R>,
+    output: &mut Checked<W>,
+    errors: &mut Checked<E>,
+) -> u8
+    requires { is_failed output.old ≡ false }
+    ensures { RunsKeptServer result (is_failed errors.new) (E.contents (inner_of errors.old)) (E.contents (inner_of errors.new)) }
+{
+    end_server(&rt.serve(path, mebibytes, reader, output), errors)
 }
 
 /// Tells what the journal in a file has, or its fault, and gives the status with which the program ends.
@@ -157,5 +199,16 @@ fn end_kept<E: Write>(answer: &Result<(), KeptFault>, errors: &mut Checked<E>) -
         Ok(()) => 0,
         Err(KeptFault::Script(fault)) => report(fault, errors),
         Err(KeptFault::Journal(fault)) => report_journal(fault, errors),
+    }
+}
+
+/// Tells the fault of a server with a journal, if there is one.
+fn end_server<E: Write>(answer: &Result<(), ServerFault>, errors: &mut Checked<E>) -> u8
+    ensures { RunsKeptServer result (is_failed errors.new) (E.contents (inner_of errors.old)) (E.contents (inner_of errors.new)) }
+{
+    match answer {
+        Ok(()) => 0,
+        Err(ServerFault::Loop(fault)) => report_process(fault, errors),
+        Err(ServerFault::Journal(fault)) => report_journal(fault, errors),
     }
 }

@@ -43,7 +43,7 @@ fn name_of(fault: &LoopFault) -> &'static str
 }
 
 /// Writes the line of a fault, such as `cq: 65 WriteFailed`, and gives the status with which the program ends.
-fn report_process<E: Write>(fault: &LoopFault, errors: &mut Checked<E>) -> u8
+pub fn report_process<E: Write>(fault: &LoopFault, errors: &mut Checked<E>) -> u8
     ensures { EndsAtProcess fault.now result (is_failed errors.new) (E.contents (inner_of errors.old))
         (E.contents (inner_of errors.new)) }
 {

@@ -16,7 +16,7 @@ ghost use Rattle.std.specs.declared.io.ErrorKind.TheVariants.{OutOfMemory as NoR
 
 use crate::explain::run_explain;
 use crate::guide::GUIDE;
-use crate::kept::{KeptSessions, run_copy, run_dump, run_journal, run_verify};
+use crate::kept::{KeptSessions, run_copy, run_dump, run_journal, run_server, run_verify};
 use crate::live::run_live;
 use crate::process::{run_first, run_joining, run_loaded, run_master};
 use crate::report::report;
@@ -114,6 +114,9 @@ fn carry_out<H: Threads + Wait + Sync + KeptSessions, R: Read, W: Write, E: Writ
         Invocation::First { id, size } => run_first(alloc, *id, *size, reader, output, errors),
         Invocation::Joining { id } => run_joining(alloc, *id, reader, output, errors),
         Invocation::Loaded => run_loaded(alloc, reader, output, errors),
+        Invocation::KeptServer { path, mebibytes } => {
+            run_server(rt, path, *mebibytes, reader, output, errors)
+        }
         Invocation::Master { size } => run_master(alloc, *size, reader, output, errors),
         Invocation::Explain { size, is_live } => {
             run_explain(alloc, *size, *is_live, reader, output, errors)

@@ -6,16 +6,8 @@ use Rattle.clap.specs.declared.parser.matches.Found.{Found}
 use Rattle.clap.specs.Words.{Text, first_of, first_value, found_of, one_of, rows_of}
 use Rattle.clap.proofs.WalkLemmas.{first_value-rows, one_text-rows}
 use Rattle.cq_args.specs.CommandLine.{IsNumber}
-use Rattle.cq_args.proofs.Asked.{number_read, some_same}
+use Rattle.cq_args.proofs.Asked.{no_path, number_read, read_or}
 use Rattle.cq_args.proofs.invocation.session_in.Goals as goal
-
--- the number that was read, or the one for none
-read_or : (text : Option Text) (read : Option ℕ) (m : ℕ) → m ≡ unwrap_or read 256 → IfSome read (IsNumber text) → IsNumber text m ⊎ (m ≡ 256)
-read_or text (Some n) m is number = inl (subst (IsNumber text) (sym is) number)
-read_or text None m is number = inr is
-
-no_path : (f : Found) (path : Option (Bor (List ℕ))) → option_map (λ s. s.now) path ≡ first_value f (codes "journal") → path ≡ None → first_of (codes "journal") (rows_of f) ≡ None
-no_path f path is none = sym (first_value-rows f (codes "journal")) ∙ sym is ∙ ap (option_map (λ s. s.now)) none
 
 pub returns-in-Some-clause-asked : goal.returns-in-Some-clause-asked
 returns-in-Some-clause-asked c =

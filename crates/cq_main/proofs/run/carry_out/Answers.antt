@@ -41,3 +41,6 @@ returns-in-Loaded g c = rw c.in-Loaded.is c.run_loaded.ensures
 
 pub returns-in-Explain : goal.returns-in-Explain
 returns-in-Explain g c = rw c.in-Explain.is c.run_explain.ensures
+
+pub returns-in-KeptServer : goal.returns-in-KeptServer
+returns-in-KeptServer g c = rw c.in-KeptServer.is c.run_server.ensures

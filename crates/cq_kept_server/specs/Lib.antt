@@ -1,0 +1,5 @@
+pub mod Commands
+pub mod Servers
+pub mod Telling
+pub mod Keeping
+pub mod Laws
