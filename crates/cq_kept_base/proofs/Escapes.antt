@@ -1,13 +1,14 @@
 -- Texts that stand for bytes.
-use Rattle.std.proofs.Common.{◌≡◌, ℕ, zero, suc, ◌+◌, ◌-◌, ◌<◌, Bool, true, false, cond, List, [], ◌∷◌, ◌++◌, length, take, drop, Result, Ok, Err, refl, sym, ◌∙◌, ap, arith, append_assoc, append-nil, drop-cons, take-append-drop}
-use Rattle.std.specs.Prelude.{◌==◌, ◌||◌, nat_eq, replicate, get_or}
+use Rattle.std.proofs.Common.{◌≡◌, ℕ, zero, suc, ◌+◌, ◌-◌, ◌<◌, ◌≤◌, Bool, true, false, cond, List, [], ◌∷◌, ◌++◌, length, take, drop, Result, Ok, Err, refl, sym, ◌∙◌, ap, arith, append_assoc, append-nil, drop-cons, take-append-drop}
+use Rattle.std.specs.Prelude.{◌==◌, ◌||◌, nat_eq, replicate, get_or, IfOk}
 use Rattle.std.proofs.lemmas.Bool.Decides.{nat_tests}
 use Rattle.std.proofs.lemmas.List.{take_more, replicate_more}
 use Rattle.std.proofs.lemmas.List.Folds.{list_any-append}
 use Rattle.cq_lines.specs.Lines.{has_line_feed}
 use Rattle.cq_wire.specs.declared.fault.WireFault.{WireFault}
 use Rattle.cq_kept_base.specs.Stuffed.{escaped, put_before, unstuffed}
-use Rattle.cq_kept_base.specs.Stuffing.{Stuffs}
+use Rattle.cq_kept_base.specs.Stuffing.{StandsForItself, Stuffs, has_escape}
+use Rattle.memchr.specs.Find.{Nowhere, Passes, is_byte3}
 
 pub put_both : (a b : List ℕ) (read : Result (List ℕ) WireFault) → put_before a (put_before b read) ≡ put_before (a ++ b) read
 put_both a b (Ok more) = ap (λ (l : List ℕ). Ok l) (sym (append_assoc a b more))
@@ -106,3 +107,40 @@ zeros_parts more behind rest zeros is = ap (λ (l : List ℕ). 0 ∷ l) ((λ i. 
 
 pub next_dropped : (text : List ℕ) (i : ℕ) → i < length text → drop i text ≡ get_or text i 0 ∷ drop (i + 1) text
 next_dropped text i below = let next : suc i ≡ i + 1 = omega arith in drop-cons text i 0 below ∙ ap (λ (k : ℕ). get_or text i 0 ∷ drop k text) next
+
+-- ---- bytes that stand for themselves
+
+neither : (here later : Bool) → (here || later) ≡ false → (here ≡ false) × (later ≡ false)
+neither true later none = absurd cc
+neither false later none = (refl, none)
+
+-- the byte is none of three
+others : (zero_here one_here feed_here : Bool) → ((zero_here || one_here || feed_here) ≡ true → ⊥) → (one_here ≡ false) × (feed_here ≡ false)
+others true one_here feed_here not = absurd (not refl)
+others false true feed_here not = absurd (not refl)
+others false false true not = absurd (not refl)
+others false false false not = (refl, refl)
+
+-- up to the first byte that doesn't
+pub plain_until : (bytes : List ℕ) (n : ℕ) → Nowhere (Passes (is_byte3 0 1 10) bytes) 0 n → n ≤ length bytes → StandsForItself (take n bytes)
+plain_until bytes zero nowhere within = record { no_escape = refl; no_line_feed = refl }
+plain_until [] (suc n) nowhere within = absurd (omega (arith, within))
+plain_until (b ∷ bytes) (suc n) nowhere within =
+    let here = others (nat_eq b 0) (nat_eq b 1) (nat_eq b 10) (nowhere 0 (omega arith) (omega arith)) in
+    let later = plain_until bytes n (λ k low high is. nowhere (suc k) (omega arith) (omega (arith, high)) is) (omega (arith, within)) in
+    record { no_escape = either (nat_eq b 1) (has_escape (take n bytes)) here.0 later.no_escape; no_line_feed = either (nat_eq b 10) (has_line_feed (take n bytes)) here.1 later.no_line_feed }
+
+run_reads : (run more : List ℕ) → has_escape run ≡ false → unstuffed false (run ++ more) ≡ put_before run (unstuffed false more)
+run_reads [] more none = sym (put_none (unstuffed false more))
+run_reads (b ∷ run) more none =
+    let parts = neither (nat_eq b 1) (has_escape run) none in
+    plain_reads b (run ++ more) parts.0 ∙ ap (λ r. put_before (b ∷ []) r) (run_reads run more parts.1) ∙ put_both (b ∷ []) run (unstuffed false more)
+
+pub run_stuff : (text more_text run : List ℕ) → StandsForItself run → more_text ≡ text ++ run → Stuffs text more_text run
+run_stuff text more_text run plain is = record { unit = run; added = is; reads = λ more. run_reads run more plain.no_escape; clean = plain.no_line_feed }
+
+-- ---- what calls answered
+
+pub if_ok : {T E : Type 0} {P Q : T → Type 0} (r : Result T E) → IfOk r P → ((x : T) → P x → Q x) → IfOk r Q
+if_ok (Ok x) p step = step x p
+if_ok (Err e) p step = tt

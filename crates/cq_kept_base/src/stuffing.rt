@@ -1,10 +1,11 @@
 //! Bytes as texts that have no 0 and no line feed.
-ghost use Rattle.std.specs.Prelude.{◌≡◌, ◌≤◌, ◌++◌, ◌∷◌, ℕ, List, false, length, take, replicate, OnOk, IfOk};
+ghost use Rattle.std.specs.Prelude.{◌≡◌, ◌≤◌, ◌<◌, ◌++◌, ◌∷◌, ℕ, List, false, length, take, replicate, OnOk, IfOk};
 ghost use Rattle.cq_wire.specs.Reading.{Gives};
 ghost use Rattle.cq_kept_base.specs.Stuffed.{escaped, put_before, unstuffed};
-ghost use Rattle.cq_kept_base.specs.Stuffing.{Stuffs};
+ghost use Rattle.cq_kept_base.specs.Stuffing.{StandsForItself, Stuffs};
 
 use cq_wire::{ReadFault, WireFault};
+use memchr::memchr3;
 use std::alloc::{AllocError, Global};
 
 /// What says that the byte behind it is escaped.
@@ -59,13 +60,39 @@ fn push_first<'a>(text: &mut Vec<u8>, byte: u8, behind: &'a [u8]) -> Result<&'a 
     }
 }
 
+/// How many bytes these begin with that stand for themselves.
+fn plain_in_front(bytes: &[u8]) -> usize
+    ensures plain { StandsForItself (take result bytes.now) }
+    ensures within { result ≤ length bytes.now }
+{
+    match memchr3(0, ESCAPE, b'\n', bytes) {
+        Some(place) => place,
+        None => bytes.len(),
+    }
+}
+
+/// Adds what stands for the first of these bytes, which are some: all that stand for themselves, and the next one, with the zeros behind
+/// it if it is one. It answers the bytes behind them.
+fn push_front<'a>(text: &mut Vec<u8>, bytes: &'a [u8]) -> Result<&'a [u8], AllocError>
+    requires { 0 < length bytes.now }
+    ensures stuffs { IfOk result (λ rest. (value : List ℕ) × (value ++ rest.now ≡ bytes.now) × Stuffs text.old.items text.new.items value) }
+    ensures fewer { IfOk result (λ rest. length rest.now < length bytes.now) }
+{
+    let (plain, behind) = bytes.split_at(plain_in_front(bytes));
+    text.extend_from_slice(plain)?;
+    match behind.split_first() {
+        Some((byte, more)) => push_first(text, *byte, more),
+        None => Ok(behind),
+    }
+}
+
 /// Adds a text that stands for these bytes. It is at most twice as long.
 pub fn stuff(text: &mut Vec<u8>, bytes: &[u8]) -> Result<(), AllocError>
     ensures { OnOk result (Stuffs text.old.items text.new.items bytes.now) }
 {
     let mut rest = bytes;
-    while let Some((byte, behind)) = rest.split_first() {
-        rest = push_first(text, *byte, behind)?;
+    while !rest.is_empty() {
+        rest = push_front(text, rest)?;
     }
     Ok(())
 }

@@ -1,20 +1,20 @@
--- One byte more, with the zeros behind it.
-use Rattle.std.proofs.Common.{ℕ, List, [], ◌++◌, refl, sym, ◌∙◌, ap, append_assoc, arith}
+-- Some bytes more, up to one that is escaped.
+use Rattle.std.proofs.Common.{ℕ, List, [], ◌++◌, length, refl, sym, ◌∙◌, ap, append_assoc, append-nil, subst, arith}
+use Rattle.cq_kept_base.specs.Stuffing.{Stuffs}
 use Rattle.cq_kept_base.proofs.Escapes.{stuffs_both, stuffs_none}
 use Rattle.cq_kept_base.proofs.stuffing.stuff.Goals as goal
 
-pub loop-byte-init : goal.loop-byte-init
-loop-byte-init c = ([], refl, stuffs_none c.args.text.now.items)
+pub loop-rest-init : goal.loop-rest-init
+loop-rest-init c = ([], refl, stuffs_none c.args.text.now.items)
 
-pub loop-byte-smaller : goal.loop-byte-smaller
-loop-byte-smaller c = omega (arith, c.in_ok-rest.ensures.fewer, c.in-Some.ensures.cases.1)
+pub loop-rest-smaller : goal.loop-rest-smaller
+loop-rest-smaller c = c.in_ok-rest.ensures.fewer
 
-pub loop-byte-preserved : goal.loop-byte-preserved
-loop-byte-preserved c =
-    let i = c.loop-byte.invariant in
-    let w = c.in_ok-rest.ensures.stuffs in
-    let first = c.in-Some.ensures.cases.0 in (
+pub loop-rest-preserved : goal.loop-rest-preserved
+loop-rest-preserved c =
+    let i = c.loop-rest.invariant in
+    let w = c.in_ok-rest.ensures.stuffs in (
       i.0 ++ w.0,
-      append_assoc i.0 w.0 c.in_ok-rest.rest.now ∙ ap (λ (l : List ℕ). i.0 ++ l) (w.1 ∙ sym first) ∙ i.1,
-      stuffs_both c.args.text.now.items c.loop-byte.text.items c.push_first.new.text.items i.0 w.0 i.2 w.2,
+      append_assoc i.0 w.0 c.in_ok-rest.rest.now ∙ ap (λ (l : List ℕ). i.0 ++ l) w.1 ∙ i.1,
+      stuffs_both c.args.text.now.items c.loop-rest.text.items c.push_front.new.text.items i.0 w.0 i.2 w.2,
     )
