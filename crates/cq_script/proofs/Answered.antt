@@ -1,8 +1,8 @@
 -- What a run of lines is where they are a script's, and where they are a session's.
-use Rattle.std.proofs.Common.{◌≡◌, ℕ, ◌≤◌, length, List, ◌++◌, Option, None, Some, IfSome, Result, Ok, Err, inl, inr, refl, sym, ap, ◌∙◌, arith}
+use Rattle.std.proofs.Common.{◌≡◌, ℕ, ◌≤◌, length, List, ◌++◌, Option, None, Some, IfSome, Result, Ok, Err, inl, inr, refl, sym, ap, ◌∙◌, append-nil, arith}
 use Rattle.cq_base.specs.Relations.{IsPrefix}
 use Rattle.cq_lines.specs.Lines.{ended_part}
-use Rattle.cq_lines.specs.Grammars.{parse_text}
+use Rattle.cq_lines.specs.Grammars.{Parsed, parse_text}
 use Rattle.cq_lines.specs.declared.fault.ScriptFault.{ScriptFault}
 use Rattle.cq_lines.specs.declared.fault.ScriptFault.TheVariants.{BadLine, LineTooLong, TooManyLines, ReadFailed, WriteFailed, NoMemory}
 use Rattle.cq_lines.specs.declared.text.TheConstants.{BYTES_LIMIT}
@@ -99,3 +99,9 @@ pub script_headlines : (size : ℕ) (input : List ℕ) (left : Option (List ℕ)
     → IfSome left (λ more. IsToldOfOneObject size (parse_text script_grammar script_limits (input ++ more)).values output)
 script_headlines size input None output some prefix = tt
 script_headlines size input (Some more) output some prefix = lines_of_one_object size (parse_text script_grammar script_limits (input ++ more)).values output some prefix
+
+-- the lines that were run are those that have ended
+pub lines_of_ended : (size : ℕ) (input written : List ℕ) (progress : Progress ScriptLine) (sim : Sim) (played : IsPlayed session_grammar session_limits size input progress sim written) → session_lines (ended_part input) ≡ played.lines
+lines_of_ended size input written progress sim played =
+    let ended = played.read.ended ∙ ap (λ lines. record { values = lines; fault = None }) (ap (λ xs. played.lines ++ xs) played.none_left ∙ append-nil played.lines) in
+    all_lines (ended_part input) (ap (λ (p : Parsed ScriptLine). p.fault) ended) ∙ ap (λ (p : Parsed ScriptLine). p.values) ended

@@ -1,12 +1,12 @@
 -- A session that goes on behind what was kept of its lines.
 use Rattle.std.specs.Prelude.{ℕ, List, ◌++◌, Option, Result}
 use Rattle.cq_base.specs.declared.ask.Entry.{Entry}
-use Rattle.cq_events.specs.Worlds.{IsAlone, first_world}
+use Rattle.cq_events.specs.Worlds.{IsAlone, World, first_world}
 use Rattle.cq_lines.specs.Lines.{ended_part}
 use Rattle.cq_lines.specs.Progress.{HasRead, lines_read, with_earlier}
 use Rattle.cq_lines.specs.declared.fault.ScriptFault.{ScriptFault}
 use Rattle.cq_store.specs.Stands as stores
-use Rattle.cq_script.specs.Lines.{session_grammar}
+use Rattle.cq_script.specs.Lines.{session_grammar, session_lines}
 use Rattle.cq_script.specs.declared.script_line.ScriptLine.{ScriptLine}
 use Rattle.cq_script.specs.Sessions.{Sessions, SessionHeadlines, session_text}
 use Rattle.cq_script.specs.declared.resumed.ResumedSession.{ResumedSession}
@@ -24,6 +24,10 @@ GoesOn size result before input left output = Sessions size result (before ++ in
 -- and it is told of one queue object, with the text of their lines
 abbrev pub GoesOnByOneObject : ℕ → List ℕ → List ℕ → Option (List ℕ) → List ℕ → Type 0
 GoesOnByOneObject size before input left output = SessionHeadlines size (before ++ input) left (session_text size (ended_part before) ++ output)
+
+-- the world behind the lines that have ended in these bytes
+abbrev pub world_behind : ℕ → List ℕ → World
+world_behind size bytes = after_lines (first_world size) (session_lines (ended_part bytes))
 
 -- how many lines have ended
 abbrev pub lines_ended : ResumedSession → ℕ

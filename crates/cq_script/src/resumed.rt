@@ -3,11 +3,12 @@ ghost use Rattle.std.specs.Prelude.{◌≡◌, ◌≤◌, ◌++◌, [], ℕ, Lis
 ghost use Rattle.std.specs.Io.KnownBytes.{Consumes, Appends};
 ghost use Rattle.cq_lines.specs.declared.fault.ScriptFault.TheVariants.{ReadFailed, WriteFailed};
 ghost use Rattle.cq_lines.specs.declared.text.TheConstants.{BYTES_LIMIT};
-ghost use Rattle.cq_script.specs.Resumed.{HasRun, GoesOn, GoesOnByOneObject, IsBaseOf, lines_ended};
+ghost use Rattle.cq_script.specs.Resumed.{HasRun, GoesOn, GoesOnByOneObject, IsBaseOf, lines_ended, world_behind};
 ghost use Rattle.cq_script.specs.Runs.{OnWritten};
 ghost use Rattle.cq_script.specs.Sessions.{IsSessionEndedPrefix, session_text};
 ghost use Rattle.cq_script.specs.within.Played.{session_limits};
 ghost use Rattle.cq_lines.specs.Lines.{ended_part};
+ghost use Rattle.cq_world.specs.Stands.{StandsFor};
 
 use crate::running::{run_chunk, run_on};
 use crate::script_line::{ScriptLine, SessionParser};
@@ -90,6 +91,13 @@ impl ResumedSession {
         ensures { result ≡ lines_ended self.now }
     {
         self.lines.line_count()
+    }
+
+    /// Its world: O(1).
+    pub fn sim(&self) -> &Sim
+        ensures { (size : ℕ) (bytes : List ℕ) → HasRun size bytes self.now → StandsFor result.now (world_behind size bytes) }
+    {
+        &self.sim
     }
 
     /// The store by which it can be begun again, with the number of its lines: none while a line has begun, while a message or an

@@ -1,0 +1,2 @@
+-- what is shown of a world
+pub mod Worlds

@@ -1,0 +1,4 @@
+pub mod Prefixes
+pub mod Coming
+pub mod Adding
+pub mod Whole
