@@ -1,4 +1,5 @@
 mod Added
+mod Gathered
 mod Listed
 pub mod Readings
 mod Restored

@@ -1,4 +1,5 @@
 pub mod Classes
+pub mod Contents
 pub mod Examples
 pub mod Kept
 pub mod Pieces

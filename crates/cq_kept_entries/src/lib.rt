@@ -2,6 +2,7 @@
 #![tactic(auto)]
 
 mod class;
+mod contents;
 mod fault;
 mod kept;
 mod laws;
@@ -11,6 +12,7 @@ mod room;
 mod starting;
 
 pub use class::{EntryClass, class_of};
+pub use contents::{EntriesContents, read_entries};
 pub use fault::StartFault;
 pub use kept::KeptEntries;
 pub use laws::entries_are_read_so;

@@ -1,8 +1,10 @@
 -- What has been read of what is kept.
-use Rattle.std.specs.Prelude.{◌≡◌, List, Option}
+use Rattle.std.specs.Prelude.{◌≡◌, ℕ, List, Option, length}
 use Rattle.cq_base.specs.declared.ask.Entry.{Entry}
+use Rattle.cq_records.specs.Frames.{joined}
 use Rattle.cq_store.specs.Stands as stores
-use Rattle.cq_kept_entries.specs.Pieces.{AreEntries, At, Stage, fresh, listing, storing}
+use Rattle.cq_kept_entries.specs.Pieces.{AreEntries, At, Stage, fresh, listing, read, start, storing}
+use Rattle.cq_kept_entries.specs.declared.contents.ContentsReader.{ContentsReader}
 use Rattle.cq_kept_entries.specs.declared.reader.EntriesReader.{EntriesReader}
 use Rattle.cq_kept_entries.specs.declared.reader.Progress.{Progress}
 use Rattle.cq_kept_entries.specs.declared.reader.Progress.TheVariants as progress
@@ -23,3 +25,9 @@ IsMade stage (progress.Listing store) = IsListed stage store
 pub record IsReader (a : At) (reader : EntriesReader) : Type 0 where
   pub piece : a.piece ≡ reader.piece.items
   pub made : IsMade a.stage reader.progress
+
+-- these records were read
+pub record IsSoFar (before : List (List ℕ)) (so_far : ContentsReader) : Type 0 where
+  pub records_are : so_far.records ≡ length before
+  pub bytes_are : so_far.bytes ≡ length (joined before)
+  pub read_so : IsReader (read start (joined before)) so_far.reader
