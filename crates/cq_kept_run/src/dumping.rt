@@ -1,13 +1,16 @@
 //! The lines of a journal, and the store before them.
-ghost use Rattle.std.specs.Prelude.{◌≡◌, false, true, IsTrue, OnOk};
+ghost use Rattle.std.specs.Prelude.{◌≡◌, ◌⊎◌, false, true, IsTrue, OnOk};
 ghost use Rattle.std.specs.Io.KnownBytes.{Appends};
 ghost use Rattle.cq_lines.specs.Checks.{inner_of, is_failed};
 ghost use Rattle.cq_kept_session.specs.declared.contents.Contents.{Contents as Told};
 ghost use Rattle.cq_kept_run.specs.within.Contents.{IsContentsOf, base_line};
 ghost use Rattle.cq_kept_run.specs.within.Dumps.{Dumps, DumpsBase, DumpsBaseOf};
+ghost use Rattle.cq_kept_entries.specs.declared.contents.EntriesContents.{EntriesContents as ToldEntries};
+ghost use Rattle.cq_kept_run.specs.within.Entries.{DumpsEntries, IsEntriesOf};
 
 use crate::KeptFault;
-use crate::kind::tell_apart;
+use crate::entries::{dump_entries, read_entries_at_once};
+use crate::kind::is_of_entries;
 use crate::looking::read_at_once;
 use crate::source::{Opens, Source};
 use crate::store::tell_store;
@@ -20,8 +23,9 @@ use std::alloc::Global;
 use std::io::Write;
 
 /// Writes the lines of the journal in a file. Where it begins with a base, the lines of the chunks of its store come first, as a session
-/// tells them, and then a line such as `{"clients":2,"kind":"base","lines":5,"queriers":0}`. Nothing is written to the file, and a
-/// session may run on it. All lines are in memory at a time.
+/// tells them, and then a line such as `{"clients":2,"kind":"base","lines":5,"queriers":0}`. Of a journal of a server's entries the lines
+/// of the chunks of the store come that all of them make, and then a line such as `{"entries":7,"kind":"entries"}`. Nothing is written to
+/// the file, and a session or a server may run on it. All lines are in memory at a time, or the store.
 pub fn dump<W: Write>(
     rt: &HostRuntime,
     path: &str,
@@ -29,10 +33,7 @@ pub fn dump<W: Write>(
 ) -> Result<(), KeptFault>
     requires { is_failed output.old ≡ false }
 {
-    match dump_source(rt.alloc(), &Source { rt, path }, output) {
-        Ok(()) => Ok(()),
-        Err(fault) => Err(tell_apart(rt, path, fault)),
-    }
+    dump_source(rt.alloc(), &Source { rt, path }, output)
 }
 
 /// Writes the lines of a journal.
@@ -42,11 +43,33 @@ fn dump_source<D: Device, S: Opens<D>, W: Write>(
     output: &mut Checked<W>,
 ) -> Result<(), KeptFault>
     requires { is_failed output.old ≡ false }
-    ensures { OnOk result ((told : Told) × (device : D) × (last : D) × (IsTrue (D.is_honest last) → IsContentsOf (D.seen device) true told)
-        × Dumps told (W.contents (inner_of output.old)) (W.contents (inner_of output.new))) }
+    ensures { OnOk result (((told : Told) × (device : D) × (last : D) × (IsTrue (D.is_honest last) → IsContentsOf (D.seen device) true told)
+        × Dumps told (W.contents (inner_of output.old)) (W.contents (inner_of output.new)))
+        ⊎ ((told : ToldEntries) × (device : D) × (last : D) × (IsTrue (D.is_honest last) → IsEntriesOf (D.seen device) told)
+        × DumpsEntries told (W.contents (inner_of output.old)) (W.contents (inner_of output.new)))) }
 {
-    let contents = read_at_once(alloc, source, true)?;
-    Ok(tell_lines(alloc, &contents, output)?)
+    match read_at_once(alloc, source, true) {
+        Ok(contents) => Ok(tell_lines(alloc, &contents, output)?),
+        Err(fault) => dump_other(alloc, source, fault, output),
+    }
+}
+
+/// Writes the store of a journal from which lines couldn't be read, where it is one of entries.
+fn dump_other<D: Device, S: Opens<D>, W: Write>(
+    alloc: Global,
+    source: &S,
+    fault: KeptFault,
+    output: &mut Checked<W>,
+) -> Result<(), KeptFault>
+    requires { is_failed output.old ≡ false }
+    ensures { OnOk result ((told : ToldEntries) × (device : D) × (last : D) × (IsTrue (D.is_honest last) → IsEntriesOf (D.seen device) told)
+        × DumpsEntries told (W.contents (inner_of output.old)) (W.contents (inner_of output.new))) }
+{
+    if !is_of_entries(alloc, source, &fault) {
+        return Err(fault);
+    }
+    let contents = read_entries_at_once(alloc, source)?;
+    Ok(dump_entries(alloc, &contents, output)?)
 }
 
 /// Writes the lines that were read, behind their base if there is one.

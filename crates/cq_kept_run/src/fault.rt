@@ -104,11 +104,8 @@ impl From<LogFault> for ServerFault {
 impl From<EntriesFault> for ServerFault {
     fn from(fault: EntriesFault) -> ServerFault {
         match fault {
-            EntriesFault::Open(fault) => ServerFault::from(KeptFault::from(fault)),
-            EntriesFault::Read(fault) => ServerFault::from(KeptFault::from(fault)),
             EntriesFault::NoEntries => ServerFault::Journal(JournalFault::OtherJournal),
-            EntriesFault::NoMemory => ServerFault::Loop(LoopFault::NoMemory),
-            EntriesFault::Write(fault) => ServerFault::from(fault),
+            _ => ServerFault::from(KeptFault::from(fault)),
         }
     }
 }
@@ -192,6 +189,18 @@ impl From<StartFault> for KeptFault {
             StartFault::Read(fault) => KeptFault::from(fault),
             StartFault::Run(fault) => KeptFault::from(fault),
             StartFault::Write(fault) => KeptFault::from(fault),
+        }
+    }
+}
+
+impl From<EntriesFault> for KeptFault {
+    fn from(fault: EntriesFault) -> KeptFault {
+        match fault {
+            EntriesFault::Open(fault) => KeptFault::from(fault),
+            EntriesFault::Read(fault) => KeptFault::from(fault),
+            EntriesFault::NoEntries => KeptFault::Journal(JournalFault::Damaged(None)),
+            EntriesFault::NoMemory => KeptFault::Script(ScriptFault::NoMemory),
+            EntriesFault::Write(fault) => KeptFault::from(fault),
         }
     }
 }

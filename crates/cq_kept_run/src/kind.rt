@@ -27,15 +27,24 @@ fn has_entries<D: Device, S: Opens<D>>(alloc: Global, source: &S) -> Result<bool
     Ok(text.as_slice().starts_with(ENTRIES) || text.as_slice().starts_with(STORE))
 }
 
-/// The fault of reading lines from the journal in a file; where that is damaged only as it has entries, that is told.
-pub(crate) fn tell_apart(rt: &HostRuntime, path: &str, fault: KeptFault) -> KeptFault {
+/// Whether lines can't be read from a journal, by that fault, only as it has entries.
+pub(crate) fn is_of_entries<D: Device, S: Opens<D>>(
+    alloc: Global,
+    source: &S,
+    fault: &KeptFault,
+) -> bool {
     match fault {
         KeptFault::Journal(JournalFault::Damaged(None)) => {
-            match has_entries(rt.alloc(), &Source { rt, path }) {
-                Ok(true) => KeptFault::Journal(JournalFault::OtherJournal),
-                _ => fault,
-            }
+            matches!(has_entries(alloc, source), Ok(true))
         }
-        _ => fault,
+        _ => false,
     }
+}
+
+/// The fault of reading lines from the journal in a file; where that is damaged only as it has entries, that is told.
+pub(crate) fn tell_apart(rt: &HostRuntime, path: &str, fault: KeptFault) -> KeptFault {
+    if is_of_entries(rt.alloc(), &Source { rt, path }, &fault) {
+        return KeptFault::Journal(JournalFault::OtherJournal);
+    }
+    fault
 }

@@ -4,8 +4,10 @@
 #![tactic(auto)]
 
 mod blank;
+mod converting;
 mod copying;
 mod dumping;
+mod entries;
 mod fault;
 mod kind;
 mod looking;
@@ -16,6 +18,7 @@ mod source;
 mod store;
 mod verifying;
 
+pub use converting::convert;
 pub use copying::copy;
 pub use dumping::dump;
 pub use fault::{JournalFault, KeptFault, ServerFault};

@@ -1,12 +1,15 @@
 //! What a journal has, told in a line.
-ghost use Rattle.std.specs.Prelude.{◌≡◌, [], ◌∷◌, false, IsTrue, OnOk};
+ghost use Rattle.std.specs.Prelude.{◌≡◌, ◌⊎◌, [], ◌∷◌, false, IsTrue, OnOk};
 ghost use Rattle.std.specs.Io.KnownBytes.{Appends};
 ghost use Rattle.cq_lines.specs.Checks.{inner_of, is_failed};
 ghost use Rattle.cq_kept_session.specs.declared.contents.Contents.{Contents as Told};
+ghost use Rattle.cq_kept_entries.specs.declared.contents.EntriesContents.{EntriesContents as ToldEntries};
 ghost use Rattle.cq_kept_run.specs.within.Contents.{IsContentsOf, TellsContents, front_text, header_text, numbers_text};
+ghost use Rattle.cq_kept_run.specs.within.Entries.{IsEntriesOf, entries_line};
 
 use crate::KeptFault;
-use crate::kind::tell_apart;
+use crate::entries::{read_entries_at_once, tell_entries};
+use crate::kind::is_of_entries;
 use crate::looking::read_at_once;
 use crate::source::{Opens, Source};
 use cq_disk::Device;
@@ -19,7 +22,9 @@ use std::io::Write;
 
 /// Tells what the journal in a file has, by a line such as `{"bytes":4096,"kind":"journal","lines":7,"records":3,"regions":1}`. Where it
 /// begins with a base, that line begins with `"base":{"clients":2,"lines":5,"queriers":0}`. All records are read, and a base is whole,
-/// as a session's start wants it. Nothing is written to the file, and a session may run on it.
+/// as a session's start wants it. Of a journal of a server's entries it tells
+/// `{"bytes":4096,"entries":7,"kind":"entries","records":3,"regions":1}`, and all entries are read, as a server's start wants them. Nothing
+/// is written to the file, and a session or a server may run on it.
 pub fn verify<W: Write>(
     rt: &HostRuntime,
     path: &str,
@@ -27,10 +32,7 @@ pub fn verify<W: Write>(
 ) -> Result<(), KeptFault>
     requires { is_failed output.old ≡ false }
 {
-    match verify_source(rt.alloc(), &Source { rt, path }, output) {
-        Ok(()) => Ok(()),
-        Err(fault) => Err(tell_apart(rt, path, fault)),
-    }
+    verify_source(rt.alloc(), &Source { rt, path }, output)
 }
 
 /// Tells what a journal has.
@@ -40,11 +42,33 @@ fn verify_source<D: Device, S: Opens<D>, W: Write>(
     output: &mut Checked<W>,
 ) -> Result<(), KeptFault>
     requires { is_failed output.old ≡ false }
-    ensures { OnOk result ((told : Told) × (device : D) × (last : D) × (IsTrue (D.is_honest last) → IsContentsOf (D.seen device) false told)
-        × TellsContents told (W.contents (inner_of output.old)) (W.contents (inner_of output.new))) }
+    ensures { OnOk result (((told : Told) × (device : D) × (last : D) × (IsTrue (D.is_honest last) → IsContentsOf (D.seen device) false told)
+        × TellsContents told (W.contents (inner_of output.old)) (W.contents (inner_of output.new)))
+        ⊎ ((told : ToldEntries) × (device : D) × (last : D) × (IsTrue (D.is_honest last) → IsEntriesOf (D.seen device) told)
+        × Appends (W.contents (inner_of output.old)) (W.contents (inner_of output.new)) (entries_line told))) }
 {
-    let contents = read_at_once(alloc, source, false)?;
-    Ok(tell_contents(&contents, output)?)
+    match read_at_once(alloc, source, false) {
+        Ok(contents) => Ok(tell_contents(&contents, output)?),
+        Err(fault) => verify_entries(alloc, source, fault, output),
+    }
+}
+
+/// Tells what a journal has from which lines couldn't be read, where it is one of entries.
+fn verify_entries<D: Device, S: Opens<D>, W: Write>(
+    alloc: Global,
+    source: &S,
+    fault: KeptFault,
+    output: &mut Checked<W>,
+) -> Result<(), KeptFault>
+    requires { is_failed output.old ≡ false }
+    ensures { OnOk result ((told : ToldEntries) × (device : D) × (last : D) × (IsTrue (D.is_honest last) → IsEntriesOf (D.seen device) told)
+        × Appends (W.contents (inner_of output.old)) (W.contents (inner_of output.new)) (entries_line told)) }
+{
+    if !is_of_entries(alloc, source, &fault) {
+        return Err(fault);
+    }
+    let contents = read_entries_at_once(alloc, source)?;
+    Ok(tell_entries(&contents, output)?)
 }
 
 /// Writes the line that tells what a journal has, and flushes it.

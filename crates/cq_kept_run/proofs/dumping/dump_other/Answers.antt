@@ -1,0 +1,5 @@
+-- What was read is what was written.
+use Rattle.cq_kept_run.proofs.dumping.dump_other.Goals as goal
+
+pub returns : goal.returns
+returns g c = let r = c.in_ok-contents.ensures in (c.in_ok-contents.contents, r.0, r.1, r.2, c.in_ok-dump_entries.ensures)
