@@ -4,6 +4,7 @@ _cq() {
     case ${COMP_WORDS[1]} in
     replay) COMPREPLY=($(compgen -W "--servers --help" -- "$word")) ;;
     live) COMPREPLY=($(compgen -W "--servers --turns --help" -- "$word")) ;;
+    watch) COMPREPLY=($(compgen -W "--servers --help" -- "$word")) ;;
     explain) COMPREPLY=($(compgen -W "--servers --live --help" -- "$word")) ;;
     session)
         if [ "${COMP_WORDS[COMP_CWORD - 1]}" = --journal ]; then
@@ -20,8 +21,8 @@ _cq() {
         fi
         ;;
     master) COMPREPLY=($(compgen -W "--servers --wire --help" -- "$word")) ;;
-    verify | copy | dump) COMPREPLY=($(compgen -f -- "$word") $(compgen -W "--help" -- "$word")) ;;
-    *) [ "$COMP_CWORD" -gt 1 ] || COMPREPLY=($(compgen -W "replay session live explain verify copy dump server master help --help --version" -- "$word")) ;;
+    verify | copy | dump | convert) COMPREPLY=($(compgen -f -- "$word") $(compgen -W "--help" -- "$word")) ;;
+    *) [ "$COMP_CWORD" -gt 1 ] || COMPREPLY=($(compgen -W "replay session live watch explain verify copy dump convert server master help --help --version" -- "$word")) ;;
     esac
 }
 complete -F _cq cq

@@ -7,7 +7,7 @@ use Rattle.clap.specs.Simple.{on_top}
 use Rattle.clap.specs.declared.builder.action.ArgAction.TheVariants.{SetTrue}
 use Rattle.clap.specs.declared.builder.value_parser.ValueParser.TheVariants.{Signed, Unsigned}
 use Rattle.cq_args.specs.declared.invocation.Invocation.{Invocation}
-use Rattle.cq_args.specs.declared.invocation.Invocation.TheVariants.{Copy, Dump, Explain, First, Joining, Kept, KeptServer, Live, Loaded, Master, Replay, Session, Verify}
+use Rattle.cq_args.specs.declared.invocation.Invocation.TheVariants.{Convert, Copy, Dump, Explain, First, Joining, Kept, KeptServer, Live, Loaded, Master, Replay, Session, Verify, Watch}
 
 -- how many servers the chain begins with; no command about a journal's file has any, and none about a server that joins
 abbrev pub size_of : Invocation → ℕ
@@ -18,12 +18,14 @@ size_of (Live size turns) = size
 size_of (Verify path) = 0
 size_of (Copy path to) = 0
 size_of (Dump path) = 0
+size_of (Convert path to) = 0
 size_of (First id size) = size
 size_of (Joining id) = 0
 size_of Loaded = 0
 size_of (KeptServer path mebibytes) = 0
 size_of (Master size) = size
 size_of (Explain size is_live) = size
+size_of (Watch size) = size
 
 -- the name of the command
 abbrev pub name_of : Invocation → Text
@@ -34,12 +36,14 @@ name_of (Live size turns) = codes "live"
 name_of (Verify path) = codes "verify"
 name_of (Copy path to) = codes "copy"
 name_of (Dump path) = codes "dump"
+name_of (Convert path to) = codes "convert"
 name_of (First id size) = codes "server"
 name_of (Joining id) = codes "server"
 name_of Loaded = codes "server"
 name_of (KeptServer path mebibytes) = codes "server"
 name_of (Master size) = codes "master"
 name_of (Explain size is_live) = codes "explain"
+name_of (Watch size) = codes "watch"
 
 -- `--servers N`, a number from 1 to 8, and its text if it isn't given
 abbrev pub servers_rule : Text → Rule
@@ -68,6 +72,10 @@ master_name = codes "master"
 -- and that of the command that explains lines
 abbrev pub explain_name : Text
 explain_name = codes "explain"
+
+-- and that of the one that shows what they do
+abbrev pub watch_name : Text
+watch_name = codes "watch"
 
 -- `--journal FILE`
 abbrev pub journal_rule : Rule
@@ -127,9 +135,9 @@ file_rule id = record (new_rule id) { required = true }
 abbrev pub file_app : Text → App
 file_app name = with_rule (new_app name) (file_rule (codes "FILE"))
 
--- `copy FILE TO`
-abbrev pub copy_app : App
-copy_app = with_rule (file_app (codes "copy")) (file_rule (codes "TO"))
+-- a command of that name, `copy FILE TO` or `convert FILE TO`
+abbrev pub files_app : Text → App
+files_app name = with_rule (file_app name) (file_rule (codes "TO"))
 
 -- the program without its commands; its arguments begin behind its name, and it has a version to tell
 abbrev pub bare_app : App
@@ -146,9 +154,11 @@ serving_app =
     (with_command bare_app (command_app (codes "replay") (codes "1"))) session_app)
     live_app
 
--- the program, with `verify`, `copy` and `dump` too
+-- the program, with `verify`, `copy`, `dump` and `convert` too
 abbrev pub journal_app : App
-journal_app = with_command (with_command (with_command serving_app (file_app (codes "verify"))) copy_app) (file_app (codes "dump"))
+journal_app =
+    with_command (with_command (with_command (with_command serving_app (file_app (codes "verify"))) (files_app (codes "copy"))) (file_app (codes "dump")))
+    (files_app (codes "convert"))
 
 -- `--id N`, a number from 1 to 2^32 - 1, which has to be there
 abbrev pub id_rule : Rule
@@ -230,9 +240,13 @@ is_live_rule = record (new_rule (codes "live")) {
 abbrev pub explain_app : App
 explain_app = with_rule (command_app (codes "explain") (codes "1")) is_live_rule
 
--- the program, with `explain` too
+-- `watch [--servers N]`, on 1 server if no number is given
+abbrev pub watch_app : App
+watch_app = command_app (codes "watch") (codes "1")
+
+-- the program, with `explain` and `watch` too
 abbrev pub program_app : App
-program_app = with_command process_app explain_app
+program_app = with_command (with_command process_app explain_app) watch_app
 
 -- the text of the number of servers that a parse found: "1" where no subcommand stands
 abbrev pub text_in : Option (Text × List Row) → Option Text
@@ -281,6 +295,7 @@ abbrev pub IsOnFile : Invocation → Type 0
 IsOnFile (Verify path) = ⊤
 IsOnFile (Copy path to) = ⊤
 IsOnFile (Dump path) = ⊤
+IsOnFile (Convert path to) = ⊤
 IsOnFile _ = ⊥
 
 -- so many servers are asked for, if the command has any
@@ -288,6 +303,7 @@ abbrev pub HasServers : Option (Text × List Row) → Invocation → Type 0
 HasServers found (Verify path) = ⊤
 HasServers found (Copy path to) = ⊤
 HasServers found (Dump path) = ⊤
+HasServers found (Convert path to) = ⊤
 HasServers found (First id size) = ⊤
 HasServers found (Joining id) = ⊤
 HasServers found Loaded = ⊤
@@ -299,6 +315,7 @@ abbrev pub AsksFiles : List Row → Invocation → Type 0
 AsksFiles rows (Verify path) = first_of (codes "FILE") rows ≡ Some path.now
 AsksFiles rows (Copy path to) = (first_of (codes "FILE") rows ≡ Some path.now) × (first_of (codes "TO") rows ≡ Some to.now)
 AsksFiles rows (Dump path) = first_of (codes "FILE") rows ≡ Some path.now
+AsksFiles rows (Convert path to) = (first_of (codes "FILE") rows ≡ Some path.now) × (first_of (codes "TO") rows ≡ Some to.now)
 AsksFiles rows _ = ⊤
 
 -- and that is so of what a parse found
@@ -306,7 +323,7 @@ abbrev pub HasFiles : Option (Text × List Row) → Invocation → Type 0
 HasFiles None invocation = IsOnFile invocation → ⊥
 HasFiles (Some found) invocation = AsksFiles found.1 invocation
 
--- it is a process of a chain, or it explains lines
+-- it is a process of a chain, or it explains or watches lines
 abbrev pub IsProcess : Invocation → Type 0
 IsProcess (First id size) = ⊤
 IsProcess (Joining id) = ⊤
@@ -314,6 +331,7 @@ IsProcess Loaded = ⊤
 IsProcess (KeptServer path mebibytes) = ⊤
 IsProcess (Master size) = ⊤
 IsProcess (Explain size is_live) = ⊤
+IsProcess (Watch size) = ⊤
 IsProcess _ = ⊥
 
 -- without a journal, it keeps that server of a first chain of so many, that server which joins, or the only one which begins with a store
@@ -328,7 +346,8 @@ AsksServer rows Loaded =
 AsksServer rows _ = ⊥
 
 -- So it keeps a server where no journal is named, or the only one of a first chain with a journal in that file: of 256 mebibytes if none
--- are given. Or it keeps the master of a first chain of so many servers, or explains the lines of a script on so many, or of a live script.
+-- are given. Or it keeps the master of a first chain of so many servers, explains the lines of a script on so many, or of a live script, or
+-- watches those of a session on so many.
 abbrev pub AsksProcess : List Row → Invocation → Type 0
 AsksProcess rows (First id size) = AsksServer rows (First id size) × (first_of (codes "journal") rows ≡ None)
 AsksProcess rows (Joining id) = AsksServer rows (Joining id) × (first_of (codes "journal") rows ≡ None)
@@ -341,6 +360,7 @@ AsksProcess rows (Master size) = IsNumber (one_of (codes "servers") rows) size
 AsksProcess rows (Explain size is_live) =
     IsNumber (one_of (codes "servers") rows) size × (one_of (codes "live") rows ≡ Some (codes "true") → is_live ≡ true)
     × (one_of (codes "live") rows ≡ Some (codes "false") → is_live ≡ false)
+AsksProcess rows (Watch size) = IsNumber (one_of (codes "servers") rows) size
 AsksProcess rows _ = ⊤
 
 -- a server of that number of a first chain of so many, or the only one, which begins with a store
@@ -381,12 +401,14 @@ LacksJournalIn found (Kept size journal) = ⊥
 LacksJournalIn found (Verify path) = ⊥
 LacksJournalIn found (Copy path to) = ⊥
 LacksJournalIn found (Dump path) = ⊥
+LacksJournalIn found (Convert path to) = ⊥
 LacksJournalIn found (First id size) = ⊥
 LacksJournalIn found (Joining id) = ⊥
 LacksJournalIn found Loaded = ⊥
 LacksJournalIn found (KeptServer path mebibytes) = ⊥
 LacksJournalIn found (Master size) = ⊥
 LacksJournalIn found (Explain size is_live) = ⊥
+LacksJournalIn found (Watch size) = ⊥
 LacksJournalIn found _ = ⊤
 
 -- the number that a text of one digit from 1 to 8 is

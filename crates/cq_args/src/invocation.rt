@@ -7,7 +7,7 @@ ghost use Rattle.clap.specs.declared.error.kind.ErrorKind.TheVariants.{OutOfMemo
 ghost use Rattle.cq_args.specs.declared.invocation.TheConstants.{ZERO_DIGIT};
 ghost use Rattle.cq_args.specs.declared.invocation.Invocation.{Invocation};
 ghost use Rattle.cq_args.specs.declared.invocation.Invocation.TheVariants as invocations;
-ghost use Rattle.cq_args.specs.CommandLine.{AsksFiles, AsksJournal, AsksProcess, AsksServer, IsAsked, IsFirstIn, IsNumber, IsOnFile, IsProcess, IsSized, LacksJournal, LacksJournalIn, ReadsTurns, asked_invocation, command_app, copy_app, explain_app, explain_name, file_app, file_rule, first_rule, id_rule, is_live_rule, joining_rule, journal_app, journal_rule, journal_size_rule, live_app, load_rule, master_app, master_name, name_in, name_of, placed_server_app, process_app, program_app, server_app, server_name, stored_server_app, serving_app, session_app, session_name, size_of, size_rule, tell_store_rule, text_in, turns_rule, turns_text, two_syncs_rule, wire_rule};
+ghost use Rattle.cq_args.specs.CommandLine.{AsksFiles, AsksJournal, AsksProcess, AsksServer, IsAsked, IsFirstIn, IsNumber, IsOnFile, IsProcess, IsSized, LacksJournal, LacksJournalIn, ReadsTurns, asked_invocation, command_app, explain_app, explain_name, file_app, file_rule, files_app, first_rule, id_rule, is_live_rule, joining_rule, journal_app, journal_rule, journal_size_rule, live_app, load_rule, master_app, master_name, name_in, name_of, placed_server_app, process_app, program_app, server_app, server_name, stored_server_app, serving_app, session_app, session_name, size_of, size_rule, tell_store_rule, text_in, turns_rule, turns_text, two_syncs_rule, watch_name, wire_rule};
 
 use clap::error::ErrorKind;
 use clap::{Arg, ArgAction, ArgMatches, Command, Error, value_parser};
@@ -69,6 +69,11 @@ pub enum Invocation<'a> {
     Dump {
         path: &'a str,
     },
+    /// Another file with the journal of a server, made of that of a session in a file.
+    Convert {
+        path: &'a str,
+        to: &'a str,
+    },
     /// A process that keeps the server of that number, at most `size`, of a first chain of so many.
     First {
         id: ServerId,
@@ -95,6 +100,10 @@ pub enum Invocation<'a> {
         size: ChainSize,
         is_live: bool,
     },
+    /// The lines of a session without a journal, which may ask what the chain holds.
+    Watch {
+        size: ChainSize,
+    },
 }
 
 const REPLAY: &str = "replay";
@@ -109,11 +118,15 @@ const COPY: &str = "copy";
 
 const DUMP: &str = "dump";
 
+const CONVERT: &str = "convert";
+
 const SERVER: &str = "server";
 
 const MASTER: &str = "master";
 
 const EXPLAIN: &str = "explain";
+
+const WATCH: &str = "watch";
 
 const FILE: &str = "FILE";
 
@@ -304,16 +317,16 @@ fn file_command<'a>(alloc: Global, name: &'a str, about: &'a str) -> Result<Comm
     Command::new(alloc, name).about(about).arg(path)
 }
 
-/// The subcommand that copies a journal.
-fn copy<'a>(alloc: Global) -> Result<Command<'a>, AllocError>
-    ensures app { IfOk result (λ command. app_of command ≡ copy_app) }
+/// The subcommand of that name, which makes another file of that of a journal.
+fn files_command<'a>(
+    alloc: Global,
+    name: &'a str,
+    about: &'a str,
+) -> Result<Command<'a>, AllocError>
+    ensures app { IfOk result (λ command. app_of command ≡ files_app name.now) }
     ensures local { IfOk result (λ command. (out-Command command).has_globals ≡ false) }
 {
-    let command = file_command(
-        alloc,
-        COPY,
-        "Copies a journal, also that of a session that runs",
-    )?;
+    let command = file_command(alloc, name, about)?;
     command.arg(file(
         alloc,
         TO,
@@ -515,19 +528,29 @@ fn journal_program<'a>(alloc: Global) -> Result<Command<'a>, AllocError>
         VERIFY,
         "Tells what a journal has, or where it is damaged",
     )?;
-    let copy = copy(alloc)?;
+    let copy = files_command(
+        alloc,
+        COPY,
+        "Copies a journal, also that of a session that runs",
+    )?;
     let dump = file_command(
         alloc,
         DUMP,
         "Writes the lines of a journal, and before them the store that stands for those that it hasn't any more",
     )?;
+    let convert = files_command(
+        alloc,
+        CONVERT,
+        "Makes the journal of a server of that of a session of one server, which doesn't run meanwhile",
+    )?;
     program
         .subcommand(verify)?
         .subcommand(copy)?
-        .subcommand(dump)
+        .subcommand(dump)?
+        .subcommand(convert)
 }
 
-/// The program's command line without the one that explains lines.
+/// The program's command line without those that explain lines, or show what they do.
 fn process_program<'a>(alloc: Global) -> Result<Command<'a>, AllocError>
     ensures { IfOk result (λ command. app_of command ≡ process_app) }
 {
@@ -543,7 +566,13 @@ fn program<'a>(alloc: Global) -> Result<Command<'a>, AllocError>
 {
     let program = process_program(alloc)?;
     let explain = explain(alloc)?;
-    program.subcommand(explain)
+    let watch = command(
+        alloc,
+        WATCH,
+        "Runs lines as 'cq session' does, and tells what the chain holds where the line {\"op\":\"show\"} asks",
+        SERVERS_DEFAULT,
+    )?;
+    program.subcommand(explain)?.subcommand(watch)
 }
 
 /// How many servers are asked for; one where no subcommand stands.
@@ -635,6 +664,10 @@ fn file_word_in<'a>(name: &str, options: &ArgMatches<'a>) -> Option<Invocation<'
         }),
         DUMP => Some(Invocation::Dump {
             path: options.get_str(FILE)?,
+        }),
+        CONVERT => Some(Invocation::Convert {
+            path: options.get_str(FILE)?,
+            to: options.get_str(TO)?,
         }),
         _ => None,
     }
@@ -739,6 +772,25 @@ fn explain_in<'a>(options: &ArgMatches<'a>) -> Option<Invocation<'a>>
     Some(Invocation::Explain { size, is_live })
 }
 
+/// Which session is watched, as these options say.
+fn watch_in<'a>(options: &ArgMatches<'a>) -> Option<Invocation<'a>>
+    ensures { IfSome result (λ it. (name_of it ≡ watch_name) × IsProcess it × AsksProcess (rows_of (found_of options.now)) it) }
+{
+    let size = ChainSize::new(options.get_one::<u8>(SERVERS)?)?;
+    Some(Invocation::Watch { size })
+}
+
+/// The command about lines of this name, as these options say. `None`: there is no such command.
+fn lines_in<'a>(name: &str, options: &ArgMatches<'a>) -> Option<Invocation<'a>>
+    ensures { IfSome result (λ it. (name_of it ≡ name.now) × IsProcess it × AsksProcess (rows_of (found_of options.now)) it) }
+{
+    match name {
+        EXPLAIN => explain_in(options),
+        WATCH => watch_in(options),
+        _ => None,
+    }
+}
+
 /// The process of a chain of this name, as these options say. `None`: there is no such process.
 fn process_in<'a>(name: &str, options: &ArgMatches<'a>) -> Option<Invocation<'a>>
     ensures { IfSome result (λ it. (name_of it ≡ name.now) × IsProcess it × AsksProcess (rows_of (found_of options.now)) it) }
@@ -746,7 +798,6 @@ fn process_in<'a>(name: &str, options: &ArgMatches<'a>) -> Option<Invocation<'a>
     match name {
         SERVER => server_in(options),
         MASTER => master_in(options),
-        EXPLAIN => explain_in(options),
         _ => None,
     }
 }
@@ -759,8 +810,9 @@ fn invocation_in<'a>(matches: &ArgMatches<'a>) -> Option<Invocation<'a>>
         → ReadsTurns (turns_text (subcommand_rows_of matches.now)) invocation → LacksJournalIn (subcommand_rows_of matches.now) invocation → result ≡ Some invocation }
 {
     match matches.subcommand() {
-        Some((name @ (VERIFY | COPY | DUMP), options)) => file_word_in(name, options),
-        Some((name @ (SERVER | MASTER | EXPLAIN), options)) => process_in(name, options),
+        Some((name @ (VERIFY | COPY | DUMP | CONVERT), options)) => file_word_in(name, options),
+        Some((name @ (SERVER | MASTER), options)) => process_in(name, options),
+        Some((name @ (EXPLAIN | WATCH), options)) => lines_in(name, options),
         _ => serving_in(matches),
     }
 }

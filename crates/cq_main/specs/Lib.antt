@@ -4,6 +4,7 @@ pub mod LiveStatuses
 pub mod LiveOutcomes
 pub mod KeptStatuses
 pub mod ExplainOutcomes
+pub mod WatchOutcomes
 pub mod KeptOutcomes
 pub mod ProcessStatuses
 pub mod ProcessOutcomes

@@ -52,13 +52,19 @@ Commands, and when to use which:
            are answered, and a later session with it goes on behind them: it begins with a line such as
            {"clients":2,"kind":"ready","lines":7,"queriers":0}. Where the file has no room, a line is
            refused by one such as {"line":8,"name":"NoRoom","refused":70}, and isn't kept
+  watch    as session, without a journal, for who wants to see the chain, too: the line {"op":"show"} is
+           answered by what it holds, as {"chain":[1],"joins":null,"kind":"show","ready":true,..},
+           with its servers and with what is on its way between them
   verify   for the file of such a session: how many regions, records, bytes and lines it has, as
            {"bytes":4096,"kind":"journal","lines":7,"records":3,"regions":1}; where a store stands for
            its first lines, how many these are
   copy     to keep a copy of that file; TO is there once all of it is on the disk
   dump     to see its lines; where a store stands for the first ones, the store comes first, in lines
            such as {"chunk":"0100..","kind":"store"}. A session may run on a file that is verified,
-           copied or dumped: nothing is written to it
+           copied or dumped: nothing is written to it. Of the file of a server the store of all its
+           entries is told, and how many these are
+  convert  to make the file of a server of that of a session of one server, so that a server goes on
+           behind what the session did; TO is there once all of it is on the disk
   live     to see a chain at work: servers, a master and two clients run side by side, each on a thread
            of its own; once the clients have their answers, all that the servers and the master did is
            put into one order and checked. It tells how many sends were accepted, and that the audit
@@ -76,8 +82,10 @@ Commands, and when to use which:
 Examples:
   cq replay --servers 3 < SCRIPT
   cq session
+  cq watch --servers 3
   cq session --journal queues.journal --journal-size 1024
   cq copy queues.journal monday.journal
+  cq convert queues.journal queue.journal
   cq live --servers 5 --turns 1000000 < LIVE_SCRIPT
   cq explain --servers 3 < SCRIPT
   cq server --id 1 --first 3

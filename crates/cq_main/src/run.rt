@@ -7,6 +7,7 @@ ghost use Rattle.cq_lines.specs.Checks.{inner_of, is_failed, is_flushed};
 ghost use Rattle.cq_args.specs.CommandLine.{asked_invocation, program_app};
 ghost use Rattle.cq_main.specs.Invocations.{IsSound, Runs};
 ghost use Rattle.cq_main.specs.Outcomes.{Ends, EndsAt, Helps, Refuses, RunsBy, TellsVersion, unread_text};
+ghost use Rattle.cq_main.specs.WatchOutcomes.{RunsWatch};
 ghost use Rattle.cq_script.specs.Replays.{Headlines, Replays};
 ghost use Rattle.cq_script.specs.Sessions.{SessionHeadlines, Sessions};
 ghost use Rattle.cq_args.specs.ArgFaults.{all_are, is_help, is_usage, is_version};
@@ -16,7 +17,9 @@ ghost use Rattle.std.specs.declared.io.ErrorKind.TheVariants.{OutOfMemory as NoR
 
 use crate::explain::run_explain;
 use crate::guide::GUIDE;
-use crate::kept::{KeptSessions, run_copy, run_dump, run_journal, run_server, run_verify};
+use crate::kept::{
+    KeptSessions, run_convert, run_copy, run_dump, run_journal, run_server, run_verify,
+};
 use crate::live::run_live;
 use crate::process::{run_first, run_joining, run_loaded, run_master};
 use crate::report::report;
@@ -25,6 +28,7 @@ use clap::error::ErrorKind;
 use cq_args::{Invocation, VERSION, invocation_of};
 use cq_base::ChainSize;
 use cq_script::{Checked, ScriptFault, Sink, replay, session};
+use cq_watching::watch;
 use std::alloc::Global;
 use std::io;
 use std::io::{Read, Write};
@@ -34,7 +38,7 @@ use std::thread::Threads;
 /// The status after a command line that is not understood.
 const USAGE: u8 = 2;
 
-/// Does what the arguments ask for. It replays the script of the reader, runs a session with it, which a journal may keep, runs it live,
+/// Does what the arguments ask for. It replays the script of the reader, runs a session with it, which a journal may keep or which may be watched, runs it live,
 /// keeps a process of a chain, or writes help or the version, on `output`; a fault, or what is wrong with the arguments, goes to `errors`. Gives the status with which the
 /// program ends. A live run waits for its threads.
 pub fn run<H: Threads + Wait + Sync + KeptSessions, R: Read, W: Write, E: Write>(
@@ -111,6 +115,7 @@ fn carry_out<H: Threads + Wait + Sync + KeptSessions, R: Read, W: Write, E: Writ
         Invocation::Verify { path } => run_verify(rt, path, output, errors),
         Invocation::Copy { path, to } => run_copy(rt, path, to, errors),
         Invocation::Dump { path } => run_dump(rt, path, output, errors),
+        Invocation::Convert { path, to } => run_convert(rt, path, to, errors),
         Invocation::First { id, size } => run_first(alloc, *id, *size, reader, output, errors),
         Invocation::Joining { id } => run_joining(alloc, *id, reader, output, errors),
         Invocation::Loaded => run_loaded(alloc, reader, output, errors),
@@ -121,6 +126,7 @@ fn carry_out<H: Threads + Wait + Sync + KeptSessions, R: Read, W: Write, E: Writ
         Invocation::Explain { size, is_live } => {
             run_explain(alloc, *size, *is_live, reader, output, errors)
         }
+        Invocation::Watch { size } => run_watch(alloc, *size, reader, output, errors),
     }
 }
 
@@ -162,6 +168,21 @@ fn run_session<R: Read, W: Write, E: Write>(
     // Its contract says that there is one at least.
     let _servers = size.get();
     end(&session(alloc, size, reader, output), errors)
+}
+
+/// Runs the lines of the reader as a session on so many servers, tells what the chain holds where they ask, and tells its fault.
+fn run_watch<R: Read, W: Write, E: Write>(
+    alloc: Global,
+    size: ChainSize,
+    reader: &mut Checked<R>,
+    output: &mut Checked<W>,
+    errors: &mut Checked<E>,
+) -> u8
+    ensures { RunsWatch size result (R.remaining (inner_of reader.old)) (R.remaining (inner_of reader.new))
+        (W.contents (inner_of output.old)) (W.contents (inner_of output.new)) (is_failed errors.new)
+        (E.contents (inner_of errors.old)) (E.contents (inner_of errors.new)) }
+{
+    end(&watch(alloc, size, reader, output), errors)
 }
 
 /// Tells the fault of a script, if there is one.

@@ -5,5 +5,7 @@ use Rattle.cq_args.proofs.invocation.program.Goals as goal
 
 pub returns : goal.returns
 returns c =
-    IfOk-weaker c.subcommand.result _ _ (λ command adds. adds.shape c.in_ok-explain.ensures.local
-    ∙ ap₂ with_subcommand c.in_ok-program.ensures (ap (λ (a : App). a.top) c.in_ok-explain.ensures.app)) c.subcommand.ensures
+    let with_explain = c.in_ok-subcommand.ensures.shape c.in_ok-explain.ensures.local
+    ∙ ap₂ with_subcommand c.in_ok-program.ensures (ap (λ (a : App). a.top) c.in_ok-explain.ensures.app) in
+    IfOk-weaker c.subcommand-2.result _ _ (λ command adds. adds.shape c.in_ok-watch.ensures.local
+    ∙ ap₂ with_subcommand with_explain (ap (λ (a : App). a.top) c.in_ok-watch.ensures.app)) c.subcommand-2.ensures

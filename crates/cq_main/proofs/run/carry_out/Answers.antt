@@ -24,6 +24,9 @@ returns-in-Copy g c = rw c.in-Copy.is c.run_copy.ensures
 pub returns-in-Dump : goal.returns-in-Dump
 returns-in-Dump g c = rw c.in-Dump.is c.run_dump.ensures
 
+pub returns-in-Convert : goal.returns-in-Convert
+returns-in-Convert g c = rw c.in-Convert.is c.run_convert.ensures
+
 pub returns-in-First : goal.returns-in-First
 returns-in-First g c = rw c.in-First.is c.run_first.ensures
 
@@ -41,6 +44,9 @@ returns-in-Loaded g c = rw c.in-Loaded.is c.run_loaded.ensures
 
 pub returns-in-Explain : goal.returns-in-Explain
 returns-in-Explain g c = rw c.in-Explain.is c.run_explain.ensures
+
+pub returns-in-Watch : goal.returns-in-Watch
+returns-in-Watch g c = rw c.in-Watch.is c.run_watch.ensures
 
 pub returns-in-KeptServer : goal.returns-in-KeptServer
 returns-in-KeptServer g c = rw c.in-KeptServer.is c.run_server.ensures
