@@ -186,7 +186,7 @@ async fn say_all(store: &Store, place: usize) -> Result<(), SqsError> {
     Ok(())
 }
 
-/// Has a book say what nothing but the store says, where programs keep their lines: which program has it, the jumps of the
+/// Has a book say what nothing but the store says, where programs keep their entries: which program has it, the jumps of the
 /// clock, and what attempts were given.
 async fn say_program(store: &Store, place: usize) -> Result<(), SqsError> {
     let attempts = of_place(store, place).flat_map(|queue| queue.state().entries_of_attempts()).map(Entry::Attempt);

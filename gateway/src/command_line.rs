@@ -32,7 +32,7 @@ enum Command {
     /// Serve clients of SQS
     #[command(override_usage = "hobbychair serve [OPTIONS]")]
     Serve(Box<Options>),
-    /// Write the lines that a journal has, and the store that stands for earlier ones
+    /// Write the store that a journal has, in chunks
     Dump(Journal),
     /// Say what a journal or a copy of one holds, and where it is damaged
     Verify(Journal),

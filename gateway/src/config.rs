@@ -344,7 +344,7 @@ const CQ_TIMEOUT: u32 = 30;
 const REQUEST_MEMORY: u64 = 256 << 20;
 const LEAST_REQUEST_MEMORY: usize = 64 << 20;
 
-/// In MiB, what cq takes. In less than that its store may find no space beside the lines that led to it.
+/// In MiB, what cq takes. In less than that its store may find no space beside the entries that led to it.
 const LEAST_KEPT: u64 = 96;
 const MOST_KEPT: u64 = 1 << 20;
 

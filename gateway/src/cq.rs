@@ -1,7 +1,7 @@
-//! What keeps the store: the process `cq session`, or a node.
+//! What keeps the store: the process `cq server`, or a node. The lines of an older journal are put to `cq session`.
 
 use std::os::unix::process::CommandExt;
-use std::path::PathBuf;
+use std::path::{Path, PathBuf};
 use std::process::Stdio;
 use std::time::Duration;
 
@@ -24,6 +24,8 @@ pub enum CqError {
     NotCq(String),
     #[error("cq is gone: {0}")]
     Gone(String),
+    #[error("cq can't turn it into a journal of this version: {0}")]
+    NotConverted(String),
     #[error("the node is gone, or it has ended this gateway's life")]
     NodeGone,
     #[error("{0}")]
@@ -31,23 +33,32 @@ pub enum CqError {
 }
 
 impl CqError {
-    /// Whether another program has the file in which this one keeps its lines.
+    /// Whether another program has the file in which this one keeps what it is told.
     pub fn is_busy(&self) -> bool {
-        matches!(self, CqError::Gone(said) if said.contains("JournalBusy"))
+        self.has_said("JournalBusy")
+    }
+
+    /// Whether that file has lines where entries are wanted.
+    pub fn is_of_other_journal(&self) -> bool {
+        self.has_said("OtherJournal")
+    }
+
+    fn has_said(&self, word: &str) -> bool {
+        matches!(self, CqError::Gone(said) if said.contains(word))
     }
 }
 
-/// A running `cq session`, which ends when this is dropped; or a node whose chain keeps the store.
+/// A running `cq`, which ends when this is dropped; or a node whose chain keeps the store.
 pub struct Cq {
     /// None: it is a node's.
     process: Option<Child>,
     pub input: Input,
     pub output: Output,
-    /// Of one that keeps its lines: what it says of its end.
+    /// Of one that keeps a journal: what it says of its end.
     errors: Option<ChildStderr>,
 }
 
-/// The file in which a program keeps its lines.
+/// The file in which a program keeps what it is told.
 #[derive(Clone, Debug)]
 pub struct KeptFile {
     pub path: PathBuf,
@@ -68,27 +79,27 @@ const VERSION_TIME: Duration = Duration::from_secs(10);
 const NOT_BUILT: i32 = 126;
 
 impl Cq {
-    /// Starts the program. It gets no signals of the terminal, so that it outlives the gateway's own end in good order.
-    pub fn start(program: &str) -> Result<Cq, CqError> {
-        Cq::start_as(program, |_| {})
+    /// Starts the only server of a chain. One that keeps its entries in a file first tells where it stands, however long that takes.
+    pub fn start_server(program: &str, file: Option<&KeptFile>) -> Result<Cq, CqError> {
+        Cq::start_as(program, &["server", "--id", "1", "--first", "1"], file)
     }
 
-    /// Starts one that keeps its lines in a file, and tells its store first, however long that takes.
-    pub fn start_keeping(program: &str, file: &KeptFile) -> Result<Cq, CqError> {
-        let cq = Cq::start_as(program, |command| {
-            command.arg("--journal").arg(&file.path).arg("--tell-store").stderr(Stdio::piped());
+    /// Starts a session. One that keeps its lines in a file first tells that it is ready.
+    pub fn start_session(program: &str, file: Option<&KeptFile>) -> Result<Cq, CqError> {
+        Cq::start_as(program, &["session"], file)
+    }
+
+    /// Starts the program. It gets no signals of the terminal, so that it outlives the gateway's own end in good order.
+    fn start_as(program: &str, words: &[&str], file: Option<&KeptFile>) -> Result<Cq, CqError> {
+        let not_started = |why: String| CqError::NotStarted { program: program.into(), why };
+        let mut command = std::process::Command::new(program);
+        command.args(words).stdin(Stdio::piped()).stdout(Stdio::piped()).process_group(0);
+        if let Some(file) = file {
+            command.arg("--journal").arg(&file.path).stderr(Stdio::piped());
             if let Some(size) = file.size {
                 command.arg("--journal-size").arg(size.to_string());
             }
-        })?;
-        Ok(cq.with_patience(Duration::MAX))
-    }
-
-    fn start_as(program: &str, told: impl FnOnce(&mut std::process::Command)) -> Result<Cq, CqError> {
-        let not_started = |why: String| CqError::NotStarted { program: program.into(), why };
-        let mut command = std::process::Command::new(program);
-        command.arg("session").stdin(Stdio::piped()).stdout(Stdio::piped()).process_group(0);
-        told(&mut command);
+        }
         // It is started by threads that are there until the gateway ends.
         end_with_this_process(&mut command);
         let mut process =
@@ -96,7 +107,11 @@ impl Cq {
         let pipes = process.stdin.take().zip(process.stdout.take());
         let (input, output) = pipes.ok_or_else(|| not_started("it has no pipes".into()))?;
         let errors = process.stderr.take();
-        Ok(Cq { process: Some(process), input: Input::new(input), output: Output::new(output), errors })
+        let mut output = Output::new(output);
+        if file.is_some() {
+            output.patience = Duration::MAX;
+        }
+        Ok(Cq { process: Some(process), input: Input::new(input), output, errors })
     }
 
     /// What has the other end of this socket is a node.
@@ -105,9 +120,9 @@ impl Cq {
         Cq { process: None, input: Input::of_node(input), output: Output::of_node(output), errors: None }
     }
 
-    /// Starts so many programs, each of which has `patience` for an answer.
+    /// Starts so many servers without files, each of which has `patience` for an answer.
     pub fn start_all(program: &str, count: u32, patience: Duration) -> Result<Vec<Cq>, CqError> {
-        (0..count).map(|_| Ok(Cq::start(program)?.with_patience(patience))).collect()
+        (0..count).map(|_| Ok(Cq::start_server(program, None)?.with_patience(patience))).collect()
     }
 
     /// From now on what is awaited of it comes within this time, or it counts as gone.
@@ -175,6 +190,22 @@ fn said(status: std::process::ExitStatus) -> String {
     }
 }
 
+/// Has the program make a journal of entries of one of lines, however long that takes.
+pub async fn convert(program: &str, lines: &Path, entries: &Path) -> Result<(), CqError> {
+    let mut command = std::process::Command::new(program);
+    command.arg("convert").arg(lines).arg(entries).process_group(0);
+    command.stdin(Stdio::null()).stdout(Stdio::null()).stderr(Stdio::piped());
+    end_with_this_process(&mut command);
+    let ended = Command::from(command).kill_on_drop(true).output().await;
+    let ended = ended.map_err(|error| CqError::NotStarted { program: program.into(), why: error.to_string() })?;
+    if !ended.status.success() {
+        let words = String::from_utf8_lossy(&ended.stderr);
+        let first = words.trim().lines().next().map_or_else(|| said(ended.status), str::to_string);
+        return Err(CqError::NotConverted(first));
+    }
+    Ok(())
+}
+
 /// Refuses a checkout's script `cq` whose program isn't built, since nobody wants to wait for a proof here. The script
 /// says what to type; the program itself knows no such word.
 pub async fn test_built(program: &str) -> Result<(), CqError> {
@@ -235,7 +266,7 @@ mod tests {
     #[tokio::test]
     async fn a_program_that_closes_its_output_and_goes_on_is_ended() {
         let path = script("exec >&-; sleep 60");
-        let mut cq = Cq::start(path.to_str().unwrap()).unwrap();
+        let mut cq = Cq::start_server(path.to_str().unwrap(), None).unwrap();
         assert_eq!(cq.output.read_u8().await.unwrap_err().kind(), io::ErrorKind::UnexpectedEof);
         let begun = std::time::Instant::now();
         assert_eq!(cq.end().await.to_string(), "cq is gone: it closed its output and went on");

@@ -1,10 +1,11 @@
-//! Requests as the bytes that a server of a chain reads, and the answers that it puts (`docs/WIRE.md`).
+//! Requests as the bytes that a server reads, and the answers that it puts (`docs/WIRE.md`).
 
 use bytes::Bytes;
 use hobbychair_cluster::parts::{Malformed, Parts, Reader};
+use thiserror::Error;
 
 use crate::lines::{AskFields, AskKind, StoreMessage, StoreReply};
-use crate::queues::ask::StoreName;
+use crate::queues::ask::{Ask, StoreName};
 
 /// The byte of an answer among messages.
 const ANSWER: u8 = 12;
@@ -26,6 +27,11 @@ pub struct Answer {
     pub length: u64,
     pub reply: StoreReply,
 }
+
+/// A server told what it never should.
+#[derive(Debug, Error)]
+#[error("cq told what can't be read: {0}")]
+pub struct BadFrame(#[from] pub Malformed);
 
 /// The bytes of an ask.
 pub fn ask(fields: &AskFields<'_>) -> Result<Vec<u8>, Malformed> {
@@ -84,31 +90,50 @@ fn put_receipt(out: &mut Vec<u8>, fields: &AskFields<'_>) -> Result<(), Malforme
     Ok(())
 }
 
+/// How many bytes a send has, but for numbers that all have: what can be longer in one than in another.
+pub fn length_of(ask: &Ask) -> usize {
+    let Ask::Send { group, dedup, envelope, .. } = ask else { return 0 };
+    group.as_str().len() + dedup.as_str().len() + envelope.stored().len()
+}
+
 /// The bytes of a request, of an ask's bytes.
 pub fn request(client: u32, number: u64, ask: &[u8]) -> Bytes {
     let mut out = Vec::with_capacity(12 + ask.len());
+    put_request(&mut out, client, number, ask);
+    out.into()
+}
+
+pub fn put_request(out: &mut Vec<u8>, client: u32, number: u64, ask: &[u8]) {
     out.number32(client);
     out.number64(number);
     out.extend_from_slice(ask);
-    out.into()
 }
 
 /// The bytes of a request that does nothing but move the store's moment on.
 pub fn moment(number: u64) -> Bytes {
-    let mut ask = vec![kind(AskKind::Receive)];
-    ask.run(NO_QUEUE.as_bytes());
-    ask.number32(1);
-    ask.flag(false);
-    request(COUNTER, number, &ask)
+    let mut out = Vec::new();
+    put_moment(&mut out, number);
+    out.into()
+}
+
+pub fn put_moment(out: &mut Vec<u8>, number: u64) {
+    put_request(out, COUNTER, number, &[kind(AskKind::Receive)]);
+    out.run(NO_QUEUE.as_bytes());
+    out.number32(1);
+    out.flag(false);
 }
 
 /// The bytes of a query for the counts of a queue.
 pub fn count(tag: u64, queue: StoreName) -> Bytes {
     let mut out = Vec::new();
+    put_count(&mut out, tag, queue);
+    out.into()
+}
+
+pub fn put_count(out: &mut Vec<u8>, tag: u64, queue: StoreName) {
     out.number32(COUNTER);
     out.number64(tag);
     out.run(queue.text().as_bytes());
-    out.into()
 }
 
 /// Reads an answer, as its server put it.
@@ -162,7 +187,7 @@ mod tests {
 
     use crate::handles::Receipt;
     use crate::messages::Envelope;
-    use crate::queues::ask::{Ask, Cause, Changer, PartsAsk, Reach};
+    use crate::queues::ask::{Cause, Changer, PartsAsk, Reach};
     use crate::seeded::{check, edits, spoilt};
     use crate::texts::{DedupId, GroupId};
 

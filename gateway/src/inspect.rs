@@ -1,5 +1,6 @@
 //! Commands that look at a journal. The programs that keep it do so, by words of their own, also while a gateway runs.
 
+use std::fmt;
 use std::io::Write;
 use std::path::{Path, PathBuf};
 use std::process::{Command, Stdio};
@@ -11,17 +12,42 @@ use crate::journal::{files_of, keep_older_out, with_suffix};
 
 /// What `cq verify` says of a file.
 #[derive(Debug, Deserialize)]
-struct Found {
-    bytes: u64,
-    records: u64,
-    /// Behind the store that stands for earlier ones.
-    lines: u64,
-    base: Option<Base>,
+#[serde(tag = "kind", rename_all = "lowercase")]
+enum Found {
+    Entries {
+        bytes: u64,
+        records: u64,
+        /// All for which its store stands, and those behind it.
+        entries: u64,
+    },
+    /// It is of the version before this one, and has lines.
+    Journal {
+        bytes: u64,
+        records: u64,
+        /// Behind the store that stands for earlier ones.
+        lines: u64,
+        base: Option<Base>,
+    },
 }
 
 #[derive(Debug, Deserialize)]
 struct Base {
     lines: u64,
+}
+
+impl fmt::Display for Found {
+    fn fmt(&self, out: &mut fmt::Formatter<'_>) -> fmt::Result {
+        match self {
+            Found::Entries { bytes, records, entries } => {
+                write!(out, "{bytes} bytes in {records} records: the store of {entries} requests")
+            }
+            Found::Journal { bytes, records, lines, base } => {
+                let earlier = base.as_ref().map_or(0, |base| base.lines);
+                write!(out, "{bytes} bytes in {records} records: a store of {earlier} lines, and {lines} lines")?;
+                out.write_str(", as an earlier version keeps them")
+            }
+        }
+    }
 }
 
 /// The files of a journal that is there.
@@ -54,16 +80,14 @@ fn ask(program: &str, word: &str, files: &[&Path], output: Stdio) -> Result<Vec<
 pub fn verify(program: &str, path: &Path, out: &mut impl Write) -> Result<()> {
     for file in files_there(path)? {
         let said = ask(program, "verify", &[&file], Stdio::piped())?;
-        let Found { bytes, records, lines, base } =
-            serde_json::from_slice(&said).context("cq said what can't be read")?;
-        let earlier = base.map_or(0, |base| base.lines);
-        let name = file.display();
-        writeln!(out, "{name}: {bytes} bytes in {records} records: a store of {earlier} lines, and {lines} lines")?;
+        let found: Found = serde_json::from_slice(&said).context("cq said what can't be read")?;
+        writeln!(out, "{}: {found}", file.display())?;
     }
     Ok(writeln!(out, "undamaged")?)
 }
 
-/// Writes the lines of a journal, and before them the store that stands for earlier ones: file by file.
+/// Writes the stores of a journal, as chunks, file by file. Where a file has lines, they come behind the store that stands for earlier
+/// ones.
 pub fn dump(program: &str, path: &Path, out: &mut impl Write) -> Result<()> {
     out.flush()?;
     for file in files_there(path)? {

@@ -1,4 +1,4 @@
-//! The files of a journal. Each program keeps its lines in one of its own; what keeps them is proved.
+//! The files of a journal. Each program keeps its entries in one of its own; what keeps them is proved.
 //!
 //! All files are made under other names and get theirs when they are whole, that of the first program last. So where that
 //! one has its name, the journal is there.
@@ -11,7 +11,7 @@ use std::path::{Path, PathBuf};
 use std::thread;
 use std::time::{Duration, Instant};
 
-use rustix::fs::{flock, fstatfs, FlockOperation, OFlags};
+use rustix::fs::{fallocate, flock, fstatfs, FallocateFlags, FlockOperation, OFlags};
 use thiserror::Error;
 
 use crate::cq::KeptFile;
@@ -103,6 +103,11 @@ impl Files {
         KeptFile { path: with_suffix(&self.of(place).path, "new"), size }
     }
 
+    /// The file to which lines go that the journal of an earlier version is put as, before they are turned into entries.
+    pub fn of_lines(&self, place: usize, least: u64) -> KeptFile {
+        KeptFile { path: with_suffix(&self.of(place).path, "lines"), ..self.fresh(place, least) }
+    }
+
     fn places(&self) -> std::ops::Range<usize> {
         0..self.shards.count() as usize
     }
@@ -136,6 +141,7 @@ impl Files {
 
     /// Whether the journal is there. What was left where its making was cut off is gone after this.
     pub fn is_there(&self) -> Result<bool, JournalError> {
+        self.go_on_converting()?;
         let found = self.found()?;
         let missing = |place: usize| JournalError::Missing(self.of(place).path.display().to_string());
         if found.contains(&0) {
@@ -164,10 +170,68 @@ impl Files {
 
     /// Removes files that have no name of the journal yet.
     pub fn clear_fresh(&self) -> io::Result<()> {
-        for number in numbers_behind(&self.path, |suffix| suffix.strip_prefix("cq")?.strip_suffix(".new"))? {
-            remove(&with_suffix(&self.path, &format!("cq{number}.new")))?;
+        for word in ["new", "new.part", "lines"] {
+            self.clear(word)?;
         }
         Ok(())
+    }
+
+    /// Removes the files whose names have this word behind that of a program's file.
+    fn clear(&self, word: &str) -> io::Result<()> {
+        for number in numbers_before(&self.path, word)? {
+            remove(&with_suffix(&self.path, &format!("cq{number}.{word}")))?;
+        }
+        Ok(())
+    }
+
+    /// Where the file of the program at this place is to go as one of entries. Nothing is there.
+    pub fn begin_conversion(&self, place: usize) -> io::Result<PathBuf> {
+        let entries = with_suffix(&self.of(place).path, CONVERTED);
+        remove(&with_suffix(&entries, "part"))?;
+        remove(&entries)?;
+        Ok(entries)
+    }
+
+    /// Puts the file of entries that is there by now in the place of the one of lines. Tells the name by which that one goes from then
+    /// on: it is of a journal that no gateway finds by this path. Between both names there is no file, and a start goes on there.
+    pub fn put_converted(&self, place: usize) -> io::Result<PathBuf> {
+        let file = self.of(place).path;
+        let old = self.old_name(place)?;
+        about(&file, std::fs::rename(&file, &old))?;
+        sync_folder(&self.path)?;
+        let entries = with_suffix(&file, CONVERTED);
+        about(&entries, std::fs::rename(&entries, &file))?;
+        sync_folder(&self.path)?;
+        Ok(old)
+    }
+
+    /// A name `PATH.old.cqN` that is free, of a journal `PATH.old`, or `PATH.old2` and so on, that has none of an earlier version.
+    fn old_name(&self, place: usize) -> io::Result<PathBuf> {
+        for number in 1u32.. {
+            let word = if number == 1 { "old".to_string() } else { format!("old{number}") };
+            let path = with_suffix(&self.path, &word);
+            let name = with_suffix(&path, &format!("cq{}", place + 1));
+            if !name.exists() && numbers_behind(&path, |suffix| Some(suffix))?.is_empty() {
+                return Ok(name);
+            }
+        }
+        Err(io::ErrorKind::AlreadyExists.into())
+    }
+
+    /// A file of entries stands under its first name where a start was cut off: it takes the place of the one of lines, if that has
+    /// another name by now, and else it is made again.
+    fn go_on_converting(&self) -> io::Result<()> {
+        for number in numbers_before(&self.path, CONVERTED)? {
+            let file = with_suffix(&self.path, &format!("cq{number}"));
+            let entries = with_suffix(&file, CONVERTED);
+            if file.exists() {
+                remove(&entries)?;
+            } else {
+                about(&entries, std::fs::rename(&entries, &file))?;
+                sync_folder(&self.path)?;
+            }
+        }
+        self.clear(&format!("{CONVERTED}.part"))
     }
 
     /// Gives the files their names. From the last of these on the journal is there.
@@ -217,6 +281,14 @@ pub fn files_of(path: &Path) -> io::Result<Vec<PathBuf>> {
     Ok((1..=last).map(|number| with_suffix(path, &format!("cq{number}"))).collect())
 }
 
+/// The numbers of the programs' files whose names have this word behind them.
+fn numbers_before(path: &Path, word: &str) -> io::Result<Vec<u64>> {
+    numbers_behind(path, |suffix| suffix.strip_prefix("cq")?.strip_suffix(word)?.strip_suffix('.'))
+}
+
+/// Behind the name of a program's file, where it was turned into one of entries and hasn't taken its place.
+const CONVERTED: &str = "entries";
+
 /// As large a program makes a file of which nothing is said, in MiB.
 const DEFAULT_SIZE: u64 = 256;
 
@@ -253,6 +325,19 @@ fn remove(path: &Path) -> io::Result<()> {
     match std::fs::remove_file(path) {
         Err(error) if error.kind() != io::ErrorKind::NotFound => about(path, Err(error)),
         _ => Ok(()),
+    }
+}
+
+/// Has a file have all of its space from now on, if the disk has so much. One that is made of another takes it as it needs it.
+pub fn take_space(path: &Path) -> io::Result<()> {
+    let file = open_file(path, OpenOptions::new().write(true))?;
+    let length = about(path, file.metadata())?.len();
+    match fallocate(&file, FallocateFlags::empty(), 0, length) {
+        Ok(()) => about(path, file.sync_all()),
+        Err(error) => {
+            tracing::warn!("{} takes space as it needs it, since the disk gives it none: {error}", path.display());
+            Ok(())
+        }
     }
 }
 
@@ -382,6 +467,39 @@ pub mod tests {
         assert_eq!(files.is_there(), Ok(true));
         files.bar_older().unwrap();
         assert!(is_bar(&front_of(&room.0.join("j.1")).unwrap().unwrap()));
+    }
+
+    #[test]
+    fn a_file_of_entries_takes_the_place_of_one_of_lines_whenever_that_is_cut_off() {
+        let room = Room::new("entries");
+        let files = files(&room, 2);
+        (1..=2).for_each(|number| room.put(&format!("j.cq{number}"), b"lines"));
+        std::fs::write(files.begin_conversion(1).unwrap(), b"entries").unwrap();
+        room.put("j.cq2.entries.part", b"");
+        assert_eq!((files.is_there(), room.names()), (Ok(true), vec!["j.cq1".into(), "j.cq2".into()]));
+        assert_eq!(std::fs::read(room.0.join("j.cq2")).unwrap(), b"lines", "it is begun anew");
+        std::fs::rename(room.0.join("j.cq2"), room.0.join("j.old.cq2")).unwrap();
+        room.put("j.cq2.entries", b"entries");
+        assert_eq!(files.is_there(), Ok(true));
+        assert_eq!(std::fs::read(room.0.join("j.cq2")).unwrap(), b"entries");
+        std::fs::write(files.begin_conversion(0).unwrap(), b"entries").unwrap();
+        assert_eq!(files.put_converted(0).unwrap(), room.0.join("j.old.cq1"));
+        assert_eq!(room.names(), ["j.cq1", "j.cq2", "j.old.cq1", "j.old.cq2"]);
+        assert_eq!(std::fs::read(room.0.join("j.cq1")).unwrap(), b"entries");
+        assert_eq!(std::fs::read(room.0.join("j.old.cq1")).unwrap(), b"lines");
+        assert_eq!(files.is_there(), Ok(true));
+    }
+
+    #[test]
+    fn what_is_put_away_takes_no_name_that_something_has() {
+        let room = Room::new("names");
+        let files = files(&room, 1);
+        let name = |name: &str| room.0.join(name);
+        assert_eq!(files.old_name(0).unwrap(), name("j.old.cq1"));
+        room.put("j.old.1", b"hobbychair journal 8\n");
+        assert_eq!(files.old_name(0).unwrap(), name("j.old2.cq1"));
+        room.put("j.old2.cq1", b"");
+        assert_eq!(files.old_name(0).unwrap(), name("j.old3.cq1"));
     }
 
     #[test]

@@ -1,7 +1,7 @@
 //! The protocol of Amazon SQS (API 2012-11-05) in front of `cq`, the program that keeps FIFO queues and is proved.
 //!
 //! A request is read by one of two codecs (`wire`), its action (`actions`) becomes asks, and the store's task (`store`)
-//! writes them as lines (`lines`) to the program (`cq`), which keeps them (`journal`). What comes back changes the tables
+//! gives them as frames (`frames`) to the program (`cq`), which keeps them (`journal`). What comes back changes the tables
 //! (`queues`), and goes to the client (`http`).
 
 mod access;
@@ -13,6 +13,7 @@ mod budget;
 mod clock;
 pub mod command_line;
 mod config;
+mod conversion;
 mod cq;
 mod delays;
 mod deliveries;

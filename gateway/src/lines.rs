@@ -1,4 +1,5 @@
-//! Asks as lines of `cq session`, and what comes of them (`docs/LINES.md`). No other module knows these lines.
+//! Asks and replies, and their lines in `cq session` (`docs/LINES.md`), to which the journal of an earlier version is put. No other
+//! module knows these lines.
 
 use std::borrow::Cow;
 
@@ -7,7 +8,7 @@ use thiserror::Error;
 
 use crate::handles::Receipt;
 use crate::queues::ask::{Ask, PartsAsk, StoreName};
-use crate::texts::{bytes_of_hex, hex};
+use crate::texts::hex;
 
 /// The kinds of asks.
 #[derive(Clone, Copy, Debug, PartialEq, Eq, Serialize, Deserialize)]
@@ -91,14 +92,6 @@ impl<'a> AskFields<'a> {
     }
 }
 
-/// How long the line of a send is, but for numbers that all have: what can be longer in one than in another.
-pub fn length_of(ask: &Ask) -> usize {
-    let Ask::Send { group, dedup, envelope, .. } = ask else { return 0 };
-    let texts = [group.as_str(), dedup.as_str(), envelope.stored()];
-    // A text can be written as JSON.
-    texts.iter().map(|text| serde_json::to_string(text).map_or(0, |json| json.len())).sum()
-}
-
 /// The group of all parts, and that of all entries of a book.
 const PARTS_GROUP: &str = "parts";
 const BOOK_GROUP: &str = "book";
@@ -141,15 +134,6 @@ pub fn read_receipt(text: &str, base: u64) -> Option<Receipt> {
     Some(Receipt { sequence: base.checked_add(place)?, ordinal })
 }
 
-#[derive(Serialize)]
-struct CountQuery<'a> {
-    op: &'static str,
-    at: u32,
-    client: u32,
-    tag: u64,
-    queue: &'a str,
-}
-
 const PUT: &[u8] = b"{\"op\":\"put\",\"from\":1,\"to\":\"clients\"}\n";
 const SERVER: u32 = 1;
 
@@ -158,13 +142,6 @@ const COUNTER: u32 = 0;
 
 /// No queue of the store has this name: theirs are numbers.
 const NO_QUEUE: &str = "none.fifo";
-
-fn append<T: Serialize>(out: &mut Vec<u8>, line: &T) -> Result<(), serde_json::Error> {
-    serde_json::to_writer(&mut *out, line)?;
-    out.push(b'\n');
-    out.extend_from_slice(PUT);
-    Ok(())
-}
 
 /// The JSON of an ask.
 pub fn ask(fields: &AskFields<'_>) -> Result<Vec<u8>, serde_json::Error> {
@@ -209,11 +186,6 @@ pub fn append_moment(out: &mut Vec<u8>, clock: u64) -> Result<(), serde_json::Er
     append_request(out, clock, COUNTER, 0, &ask)
 }
 
-/// Appends the two lines of a query for the counts of a queue.
-pub fn append_count(out: &mut Vec<u8>, tag: u64, queue: StoreName) -> Result<(), serde_json::Error> {
-    append(out, &CountQuery { op: "ask", at: SERVER, client: COUNTER, tag, queue: &queue.text() })
-}
-
 /// A reply of the store.
 #[derive(Clone, Debug, PartialEq, Eq)]
 pub enum StoreReply {
@@ -243,22 +215,10 @@ pub struct StoreMessage {
 /// One line of output that matters.
 #[derive(Debug)]
 pub enum OutputLine<'a> {
-    /// The answer to the request or query of this client and number.
-    Answer { client: u32, number: u64, reply: StoreReply, text: &'a str, line: u64 },
-    /// A line was refused, by this code: that of a request, or where there is no room the one that should have given its
-    /// answer.
-    Refused { code: u32, line: u64 },
-    /// The line that should have given the answer of a refused request.
-    Nothing { line: u64 },
-}
-
-/// What a program that keeps its lines in a file tells at its start.
-#[derive(Debug, PartialEq, Eq)]
-pub enum StartLine {
-    /// A chunk of the store.
-    Chunk(Vec<u8>),
-    /// That was all of it, and so many lines are kept.
-    Ready { lines: u64 },
+    /// The answer to the request of this number.
+    Answer { number: u64, reply: StoreReply, text: &'a str },
+    /// A line was refused, by this code: that of a request, or the one that should have given its answer.
+    Refused { code: u32 },
 }
 
 /// The program wrote what it never should.
@@ -268,23 +228,16 @@ pub struct BadOutput(String);
 
 #[derive(Deserialize)]
 struct OutputFields<'a> {
-    client: Option<u32>,
     number: Option<u64>,
-    tag: Option<u64>,
     #[serde(borrow)]
     reply: Option<ReplyFields<'a>>,
     refused: Option<u32>,
-    #[serde(default)]
-    line: u64,
 }
 
 #[derive(Deserialize)]
-struct StartFields<'a> {
+struct ReadyFields<'a> {
     #[serde(borrow)]
     kind: Cow<'a, str>,
-    #[serde(borrow)]
-    chunk: Option<Cow<'a, str>>,
-    lines: Option<u64>,
 }
 
 #[derive(Deserialize)]
@@ -299,29 +252,19 @@ struct ReplyFields<'a> {
     code: Option<u32>,
 }
 
-const OUTBOX_EMPTY: u32 = 34;
-
-/// The journal of the program has no room for a line of this kind. It changed nothing, and isn't counted.
+/// The journal of the program has no room for a line of this kind. It changed nothing.
 pub const NO_ROOM: u32 = 70;
 
 fn bad_output(line: &[u8]) -> BadOutput {
     BadOutput(String::from_utf8_lossy(&line[..line.len().min(200)]).into_owned())
 }
 
-/// Reads a line that a program writes at its start, without its line feed.
-pub fn read_start(line: &[u8]) -> Result<StartLine, BadOutput> {
-    let fields: StartFields<'_> = serde_json::from_slice(line).map_err(|_| bad_output(line))?;
-    let read = match (fields.kind.as_ref(), fields.chunk, fields.lines) {
-        ("store", Some(chunk), _) => bytes_of_hex(&chunk).map(StartLine::Chunk),
-        ("ready", _, Some(lines)) => Some(StartLine::Ready { lines }),
-        _ => None,
-    };
-    read.ok_or_else(|| bad_output(line))
-}
-
-/// Appends the line that has an answer given. Where none waits, it is answered so.
-pub fn append_put(out: &mut Vec<u8>) {
-    out.extend_from_slice(PUT);
+/// Reads the line by which a session says that it is ready, without its line feed.
+pub fn read_ready(line: &[u8]) -> Result<(), BadOutput> {
+    match serde_json::from_slice(line) {
+        Ok(ReadyFields { kind }) if kind == "ready" => Ok(()),
+        _ => Err(bad_output(line)),
+    }
 }
 
 /// Reads a line of output, without its line feed.
@@ -330,18 +273,11 @@ pub fn read_output(line: &[u8]) -> Result<OutputLine<'_>, BadOutput> {
     let text = std::str::from_utf8(line).map_err(|_| bad())?;
     let fields: OutputFields<'_> = serde_json::from_str(text).map_err(|_| bad())?;
     if let Some(code) = fields.refused {
-        let line = fields.line;
-        return Ok(if code == OUTBOX_EMPTY {
-            OutputLine::Nothing { line }
-        } else {
-            OutputLine::Refused { code, line }
-        });
+        return Ok(OutputLine::Refused { code });
     }
-    let (Some(client), Some(number), Some(reply)) = (fields.client, fields.number.or(fields.tag), fields.reply) else {
-        return Err(bad());
-    };
+    let (Some(number), Some(reply)) = (fields.number, fields.reply) else { return Err(bad()) };
     let (reply, text) = (read_reply(reply).ok_or_else(bad)?, text_of_reply(text).ok_or_else(bad)?);
-    Ok(OutputLine::Answer { client, number, reply, text, line: fields.line })
+    Ok(OutputLine::Answer { number, reply, text })
 }
 
 /// The text of the reply in a line, where nothing stands behind it. Only numbers stand before it. Serde could tell it, too,
@@ -405,18 +341,14 @@ mod tests {
     #[test]
     fn answers_are_read() {
         let line = br#"{"client":1,"length":3,"line":6,"number":9,"reply":{"kind":"received","messages":[{"body":"a\n","group":"g","receipt":"1-2-1"}]}}"#;
-        let Ok(OutputLine::Answer { client: 1, number: 9, reply: StoreReply::Received(given), text, line: 6 }) =
-            read_output(line)
-        else {
+        let Ok(OutputLine::Answer { number: 9, reply: StoreReply::Received(given), text }) = read_output(line) else {
             panic!()
         };
         let expected = r#"{"kind":"received","messages":[{"body":"a\n","group":"g","receipt":"1-2-1"}]}"#;
         assert_eq!((text, given[0].body.as_str()), (expected, "a\n"));
         assert_eq!(read_receipt(&given[0].receipt, 10), Some(Receipt { sequence: 12, ordinal: 1 }));
         let refused = br#"{"line":3,"name":"BadLine","refused":61}"#;
-        assert!(matches!(read_output(refused), Ok(OutputLine::Refused { code: 61, line: 3 })));
-        let put = br#"{"line":4,"name":"OutboxEmpty","refused":34}"#;
-        assert!(matches!(read_output(put), Ok(OutputLine::Nothing { line: 4 })));
+        assert!(matches!(read_output(refused), Ok(OutputLine::Refused { code: 61 })));
         for bad in [&b"hello"[..], b"{}", b"{\"client\":1,\"number\":1,\"reply\":{\"kind\":\"x\"}}"] {
             assert!(read_output(bad).is_err());
         }
@@ -424,18 +356,9 @@ mod tests {
 
     #[test]
     fn what_is_told_at_a_start_is_read() {
-        let chunk = read_start(br#"{"chunk":"0105ff","kind":"store"}"#).unwrap();
-        assert_eq!(chunk, StartLine::Chunk(vec![1, 5, 255]));
-        let ready = read_start(br#"{"clients":2,"kind":"ready","lines":7,"queriers":0}"#).unwrap();
-        assert_eq!(ready, StartLine::Ready { lines: 7 });
-        for bad in [
-            &b"ready"[..],
-            b"{}",
-            b"{\"kind\":\"ready\"}",
-            b"{\"kind\":\"store\",\"chunk\":\"0\"}",
-            b"{\"kind\":\"store\",\"chunk\":\"0G\"}",
-        ] {
-            assert!(read_start(bad).is_err());
+        assert!(read_ready(br#"{"clients":2,"kind":"ready","lines":7,"queriers":0}"#).is_ok());
+        for bad in [&b"ready"[..], b"{}", b"{\"kind\":\"store\",\"chunk\":\"00\"}"] {
+            assert!(read_ready(bad).is_err());
         }
     }
 

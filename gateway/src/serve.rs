@@ -19,7 +19,8 @@ use crate::book;
 use crate::budget::Budget;
 use crate::clock::{Clock, Moment};
 use crate::config::{Address, DeclaredQueue, Misuse};
-use crate::cq::{test_built, test_version, Cq, KeptFile};
+use crate::conversion::convert;
+use crate::cq::{test_built, test_version, Cq};
 use crate::delays;
 use crate::ending::End;
 use crate::http::{is_of_this_machine, listen, Addresses, Door, Hosts, Places, Service};
@@ -33,7 +34,7 @@ use crate::purges;
 use crate::queues::shards::Shards;
 use crate::queues::{Image, Queues};
 use crate::retention;
-use crate::store::{self, Ends, Kept, NodeStart, Ready, Start, Store, ToldError};
+use crate::store::{self, Ends, Kept, NodeStart, Ready, Start, Store};
 use crate::tls::Certificate;
 use crate::upgrade::Upgrade;
 
@@ -48,7 +49,7 @@ pub struct Settings {
     pub cq_timeout: Duration,
     /// How many of it share the queues.
     pub shards: Shards,
-    /// Where the programs keep their lines, if they do.
+    /// Where the programs keep their entries, if they do.
     pub journal: Option<Files>,
     /// The store is kept by a chain of servers, and the node of the head has the other end of standard input.
     pub beside_node: bool,
@@ -249,19 +250,25 @@ fn clock_of(settings: &Settings) -> Arc<Clock> {
     })
 }
 
-/// Starts a program that keeps its lines, and takes up what it tells of its store. Where it ends meanwhile, it is started once
-/// more.
-async fn tell(program: &str, file: &KeptFile, patience: Duration, peek: bool) -> Result<(Ready, Image), ToldError> {
-    let mut ended = None;
+/// Starts a program that keeps its entries, and takes up what it tells of its store. Where it ends meanwhile, it is started once
+/// more; and where its file is of the version before this one, once that is turned into one of this version.
+async fn tell(settings: &Settings, files: &Files, place: usize) -> Result<(Ready, Image)> {
+    let (program, file) = (settings.program.as_str(), files.of(place));
+    let (mut ended, mut is_converted) = (None, false);
     loop {
-        let mut image = Image::new(peek);
-        match store::start_told(program, file, patience, &mut |chunk| image.feed(chunk)).await {
+        let mut image = Image::new(settings.peek);
+        let mut take = |chunk: &[u8]| image.feed(chunk);
+        match store::start_told(program, &file, settings.cq_timeout, Some(&mut take)).await {
             Ok(ready) => return Ok((ready, image)),
+            Err(error) if error.is_of_other_journal() && !is_converted => {
+                convert(program, files, place).await?;
+                is_converted = true;
+            }
             Err(error) if error.is_of_program() && ended.is_none() => {
                 tracing::warn!("cq is started again. Before, {error}");
                 ended = Some(error);
             }
-            Err(error) => return Err(error),
+            Err(error) => return Err(error.into()),
         }
     }
 }
@@ -277,9 +284,9 @@ struct Begun {
     _lock: Option<Lock>,
 }
 
-/// Starts programs that keep their lines, and makes the tables of what each tells of its store.
+/// Starts programs that keep their entries, and makes the tables of what each tells of its store.
 async fn begin_kept(
-    settings: &Settings,
+    settings: &Arc<Settings>,
     health: &Health,
     files: &Files,
     tables: (&Arc<Clock>, &Queues),
@@ -291,24 +298,25 @@ async fn begin_kept(
         .shards
         .all()
         .map(|shard| {
-            let (program, file, peek) = (settings.program.clone(), files.of(shard.place()), settings.peek);
-            tokio::spawn(async move { tell(&program, &file, patience, peek).await.map(|told| (told, file)) })
+            let (settings, files) = (settings.clone(), files.clone());
+            tokio::spawn(async move { tell(&settings, &files, shard.place()).await })
         })
         .collect();
     let mut kept = Kept { files: Vec::new(), begun: Vec::new() };
-    let (mut cqs, mut last, mut lines) = (Vec::new(), 0, 0);
+    let (mut cqs, mut last, mut entries) = (Vec::new(), 0, 0);
     for (shard, starting) in settings.shards.all().zip(starting) {
-        let ((ready, image), file) = starting.await??;
+        let (ready, image) = starting.await??;
+        let file = files.of(shard.place());
         last = last.max(image.last());
-        lines += ready.lines;
-        kept.begun.push((ready.line, image.largest_number()));
+        entries += ready.entries;
+        kept.begun.push(image.largest_number());
         cqs.push(ready.cq);
         queues.take_up(shard, image).with_context(|| file.path.display().to_string())?;
         kept.files.push(file);
     }
     clock.go_on_from(last);
-    if lines > 0 {
-        say(&format!("took up {lines} lines of the journal"));
+    if entries > 0 {
+        say(&format!("took up {entries} requests of the journal"));
     }
     Ok(Begun { cqs, node: None, kept: Some(kept), last, _lock: Some(lock) })
 }
@@ -341,7 +349,7 @@ async fn begin_beside_node(settings: &Settings, tables: (&Arc<Clock>, &Arc<Queue
     });
     store::wait_beside_node(making, &mut cq, &mut node, clock).await?.context("the store of the head")?;
     clock.go_on_from(last);
-    let kept = Kept { files: Vec::new(), begun: vec![(0, number)] };
+    let kept = Kept { files: Vec::new(), begun: vec![number] };
     Ok(Begun { cqs: vec![cq], node: Some(node), kept: Some(kept), last, _lock: None })
 }
 
@@ -351,7 +359,7 @@ fn begin_without_journal(settings: &Settings) -> Result<Begun> {
 }
 
 /// Starts the programs, and the store in front of them.
-async fn begin(settings: &Settings, health: &Health) -> Result<RunningStore> {
+async fn begin(settings: &Arc<Settings>, health: &Health) -> Result<RunningStore> {
     let (clock, queues) = (clock_of(settings), Arc::new(Queues::new(settings.peek)));
     let (program, patience, shards) = (settings.program.clone(), settings.cq_timeout, settings.shards);
     let Begun { cqs, node, kept, last, _lock } = match &settings.journal {

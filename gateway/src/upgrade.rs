@@ -1,6 +1,6 @@
-//! The files of a journal are made, and what an earlier version kept goes into them: its records are put to programs that
-//! keep their lines, and what it had beside the store goes to the store. All of that is done before the files have their
-//! names, so a start that is cut off leaves the earlier journal as it was.
+//! The files of a journal are made, and what a version kept goes into them that had a journal of its own: its records are put to
+//! sessions by lines, which are turned into entries, and what it had beside the store goes to the store. All of that is done
+//! before the files have their names, so a start that is cut off leaves the earlier journal as it was.
 
 use std::sync::atomic::AtomicU64;
 use std::sync::Arc;
@@ -10,9 +10,9 @@ use anyhow::{bail, Context, Result};
 
 use crate::book;
 use crate::clock::{Clock, Moment};
-use crate::cq::{Cq, KeptFile};
+use crate::cq::{self, Cq, KeptFile};
 use crate::delays;
-use crate::journal::{Files, Lock};
+use crate::journal::{take_space, Files, Lock};
 use crate::messages::{parts_of, EnvelopeHead};
 use crate::moves;
 use crate::older::{OlderJournal, Records};
@@ -20,7 +20,7 @@ use crate::purges;
 use crate::queues::ask::{PartsAsk, PartsCause};
 use crate::queues::{Queue, Queues};
 use crate::retention;
-use crate::store::{self, replay_all, Ends, Kept, ReplayError, Replayed, Start, Store, Tables};
+use crate::store::{self, replay_all, Ends, Kept, ReplayError, Start, Store, Tables};
 
 /// With what programs are started, and who is told how far it is.
 pub struct Upgrade<'a> {
@@ -46,7 +46,7 @@ impl Upgrade<'_> {
         let older = OlderJournal::find(self.files.path())?;
         let made = match &older {
             Some(older) => self.take_over(older).await,
-            None => self.make(0).await.map(drop),
+            None => self.begin_servers(0).await.map(drop),
         };
         if made.is_err() {
             // What a full disk took of them is wanted by others.
@@ -70,19 +70,45 @@ impl Upgrade<'_> {
 
     /// The files before they have their names, of at least so many MiB together.
     fn fresh_files(&self, least: u64) -> Vec<KeptFile> {
-        let shards = self.files.shards();
-        let of_each = least.div_ceil(u64::from(shards.count()));
-        shards.all().map(|shard| self.files.fresh(shard.place(), of_each)).collect()
+        let of_each = self.of_each(least);
+        self.files.shards().all().map(|shard| self.files.fresh(shard.place(), of_each)).collect()
+    }
+
+    fn of_each(&self, least: u64) -> u64 {
+        least.div_ceil(u64::from(self.files.shards().count()))
     }
 
     /// Starts a program on each of them.
-    async fn make(&self, least: u64) -> Result<Vec<Cq>> {
+    async fn begin_servers(&self, least: u64) -> Result<Vec<Cq>> {
         let mut cqs = Vec::new();
         for file in self.fresh_files(least) {
-            let ready = store::start_told(self.program, &file, self.patience, &mut |_| Ok(())).await;
+            let ready = store::start_told(self.program, &file, self.patience, None).await;
             cqs.push(ready.with_context(|| file.path.display().to_string())?.cq);
         }
         Ok(cqs)
+    }
+
+    /// Starts sessions that keep lines in files of their own.
+    async fn begin_sessions(&self, least: u64) -> Result<Vec<Cq>> {
+        let (mut cqs, of_each) = (Vec::new(), self.of_each(least));
+        for shard in self.files.shards().all() {
+            let file = self.files.of_lines(shard.place(), of_each);
+            let ready = store::start_session(self.program, &file, self.patience).await;
+            cqs.push(ready.with_context(|| file.path.display().to_string())?);
+        }
+        Ok(cqs)
+    }
+
+    /// Turns what the sessions keep, which have ended, into entries.
+    async fn convert_lines(&self) -> Result<()> {
+        for (shard, file) in self.files.shards().all().zip(self.fresh_files(0)) {
+            let lines = self.files.of_lines(shard.place(), 0).path;
+            let converted = cq::convert(self.program, &lines, &file.path).await;
+            converted.with_context(|| lines.display().to_string())?;
+            std::fs::remove_file(&lines).with_context(|| lines.display().to_string())?;
+            take_space(&file.path)?;
+        }
+        Ok(())
     }
 
     /// Feeds what an earlier version kept to programs. Where one of them ends on the way, all begin anew, once.
@@ -103,12 +129,17 @@ impl Upgrade<'_> {
     async fn feed(&self, records: &Records, least: u64) -> Result<()> {
         let queues = Arc::new(Queues::default());
         let tables = Tables { queues: queues.clone(), clock: self.clock.clone(), progress: self.progress.clone() };
-        let cqs = self.make(least).await?;
-        let replayed = replay_all(cqs, self.files.shards(), records, &tables).await?;
+        let sessions = self.begin_sessions(least).await?;
+        let mut replayed = replay_all(sessions, self.files.shards(), records, &tables).await?;
+        for one in &mut replayed {
+            one.cq.stop().await;
+        }
+        self.convert_lines().await?;
         // Each of them has seen all records.
         let (records, latest) = replayed.first().map_or((0, 0), |one| (one.records, one.latest));
         tracing::info!("{records} records of an earlier version were read");
-        let (store, mut ends) = self.start(queues, replayed);
+        let numbers = replayed.into_iter().map(|one| one.number).collect();
+        let (store, mut ends) = self.start(queues, numbers).await?;
         tokio::select! {
             finished = finish(&store, latest) => finished?,
             ended = ends.recv() => bail!(ended.map_or_else(|| "The store is gone.".to_string(), |ended| ended.to_string())),
@@ -119,19 +150,19 @@ impl Upgrade<'_> {
         Ok(())
     }
 
-    fn start(&self, queues: Arc<Queues>, replayed: Vec<Replayed>) -> (Store, Ends) {
-        let begun = replayed.iter().map(|one| (one.line, one.number)).collect();
-        store::start(Start {
+    /// Starts programs on the files, whose requests had numbers up to these, beside the tables.
+    async fn start(&self, queues: Arc<Queues>, numbers: Vec<u64>) -> Result<(Store, Ends)> {
+        Ok(store::start(Start {
             node: None,
             program: self.program.into(),
             patience: self.patience,
             shards: self.files.shards(),
-            cqs: replayed.into_iter().map(|one| one.cq).collect(),
+            cqs: self.begin_servers(0).await?,
             queues,
             clock: self.clock.clone(),
-            kept: Some(Kept { files: self.fresh_files(0), begun }),
+            kept: Some(Kept { files: self.fresh_files(0), begun: numbers }),
             memory: None,
-        })
+        }))
     }
 }
 

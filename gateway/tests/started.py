@@ -18,6 +18,7 @@ from typing import Any
 
 import boto3
 import botocore.exceptions
+import spoken
 from botocore.config import Config
 
 TOP = Path(__file__).resolve().parents[2]
@@ -61,6 +62,15 @@ def run(*words: str, timeout: float = 60, **variables: str) -> subprocess.Comple
     )
 
 
+def dumped(journal: Path) -> bytes:
+    """The bytes of the stores by a journal, as `dump` writes them."""
+    ended = run("dump", str(journal))
+    assert ended.returncode == 0, ended.stderr
+    lines = [json.loads(line) for line in ended.stdout.splitlines()]
+    assert lines[-1]["kind"] == "entries"
+    return b"".join(bytes.fromhex(line["chunk"]) for line in lines if line["kind"] == "store")
+
+
 def names_in_store(journal: Path) -> set[str]:
     """The names that live in the stores by a journal. Nobody asks for anything meanwhile."""
     return {name for file in files_of(journal) for name in _names_in(file)}
@@ -68,11 +78,8 @@ def names_in_store(journal: Path) -> set[str]:
 
 def _names_in(file: Path) -> set[str]:
     with tempfile.TemporaryDirectory() as room:
-        copy = shutil.copy(file, room)
-        told = subprocess.run([program(), "session", "--journal", copy, "--tell-store"], stdin=subprocess.DEVNULL,
-                              capture_output=True, check=True, text=True).stdout
-    lines = [json.loads(line) for line in told.splitlines()]
-    digits = "01" + "".join(line["chunk"][2:] for line in lines if line["kind"] == "store")
+        chunks = spoken.store_of(program(), shutil.copy(file, room))
+    digits = "01" + b"".join(chunk[1:] for chunk in chunks).hex()
     words = subprocess.run([TOP / "check" / "wire", "store"], input=digits, capture_output=True, check=True, text=True).stdout
     names = re.findall(r"name ([0-9a-f]+) \d+ (?:\d+|none) (\d+|none)", words)
     return {bytes.fromhex(name).decode() for name, incarnation in names if incarnation != "none"}

@@ -1,4 +1,4 @@
-"""A `cq` that does to lines what a test tells it: it keeps them waiting, ends at them, or takes its time."""
+"""A `cq` that does to commands what a test tells it: it keeps them waiting, ends at them, or takes its time."""
 
 from __future__ import annotations
 
@@ -11,7 +11,9 @@ from started import program
 
 SOURCE = """#!{python}
 import json, os, subprocess, sys, time
-if sys.argv[1] != 'session': sys.exit(subprocess.run([{program!r}, *sys.argv[1:]]).returncode)
+if sys.argv[1] != 'server': sys.exit(subprocess.run([{program!r}, *sys.argv[1:]]).returncode)
+sys.path.insert(0, {tests!r})
+import spoken
 
 def told():
     try:
@@ -20,8 +22,8 @@ def told():
 
 cq = subprocess.Popen([{program!r}, *sys.argv[1:]], stdin=subprocess.PIPE)
 found, counted = None, 0
-for number, line in enumerate(sys.stdin.buffer):
-    text = line.decode()
+for number, frame in enumerate(spoken.frames(sys.stdin.buffer)):
+    text = spoken.words(frame)
     if found != told().get('each'): found, counted = told().get('each'), 0
     if found and any(word in text for word in found):
         counted += 1
@@ -36,7 +38,7 @@ for number, line in enumerate(sys.stdin.buffer):
         with open({ends!r}, 'a') as file: file.write('.')
         sys.exit(cq.kill())
     if (word := told().get('slow')) is not None and word in text: time.sleep(0.003)
-    cq.stdin.write(line); cq.stdin.flush()
+    cq.stdin.write(frame); cq.stdin.flush()
 """
 
 
@@ -44,7 +46,7 @@ class SteeredCq:
     def __init__(self, room: Path) -> None:
         self.program, self.orders, self.told_ends = room / "steered-cq", room / "orders", room / "ends"
         self.program.write_text(SOURCE.format(python=sys.executable, program=program(), orders=str(self.orders),
-                                              ends=str(self.told_ends)))
+                                              ends=str(self.told_ends), tests=str(Path(__file__).parent)))
         self.program.chmod(0o755)
 
     def words(self) -> list[str]:
@@ -55,9 +57,9 @@ class SteeredCq:
         return self.told_ends.stat().st_size if self.told_ends.exists() else 0
 
     def tell(self, **orders: Any) -> None:
-        """`hold`, `end` and `slow`: what happens to lines that have this text; `behind` so many lines, it ends. Of the
-        lines that have one of the texts `each` so many `pass`, and at the next one it waits, or ends once if `kill` is true.
-        What was told before counts no more."""
+        """`hold`, `end` and `slow`: what happens to commands that have this text, as lines of JSON; `behind` so many commands, it
+        ends. Of those that have one of the texts `each` so many `pass`, and at the next one it waits, or ends once if `kill` is
+        true. What was told before counts no more."""
         new = self.orders.with_suffix(".new")
         new.write_text(json.dumps(orders))
         new.replace(self.orders)

@@ -3,12 +3,11 @@
 from __future__ import annotations
 
 import itertools
-import json
 import threading
 import time
 from pathlib import Path
 
-from started import ByJson, Refused, Started, files_of, run
+from started import ByJson, Refused, Started, dumped, files_of, run
 
 FIFO = {"FifoQueue": "true"}
 
@@ -95,8 +94,7 @@ def test_what_a_journal_holds_is_told_and_what_is_wrong_with_it(tmp_path):
     for _ in range(2):
         told = run("verify", str(journal))
         assert told.returncode == 0 and told.stdout.startswith(f"{journal}.cq1: ") and told.stdout.endswith("undamaged\n")
-        lines = [json.loads(line) for line in run("dump", str(journal)).stdout.splitlines()]
-        assert any(line.get("ask", {}).get("body", "").endswith("a body") for line in lines)
+        assert b"a body" in dumped(journal)
         gateway.stop()
     (file,) = files_of(journal)
     file.rename(tmp_path / "journal.cq2")

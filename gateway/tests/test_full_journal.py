@@ -200,9 +200,9 @@ def test_tags_that_change_for_ever_leave_room(tmp_path):
     assert gateway.stop() == 0
 
 
-def lines_of(journal: Path) -> int:
+def entries_of(journal: Path) -> int:
     told = run("verify", str(journal)).stdout
-    return sum(int(number) for number in re.findall(r"(\d+) lines", told))
+    return sum(int(number) for number in re.findall(r"(\d+) requests", told))
 
 
 def test_of_what_changes_nothing_nothing_is_kept(tmp_path):
@@ -212,14 +212,14 @@ def test_of_what_changes_nothing_nothing_is_kept(tmp_path):
     call("CreateQueue", QueueName="q.fifo", Attributes={"FifoQueue": "true"})
     call("TagQueue", QueueUrl="q.fifo", Tags={"a": "1", "b": "2"})
     call("SetQueueAttributes", QueueUrl="q.fifo", Attributes={"VisibilityTimeout": "7"})
-    before = lines_of(journal)
+    before = entries_of(journal)
     for _ in range(100):
         call("TagQueue", QueueUrl="q.fifo", Tags={"a": "1", "b": "2"})
         call("UntagQueue", QueueUrl="q.fifo", TagKeys=["c"])
         call("SetQueueAttributes", QueueUrl="q.fifo", Attributes={"VisibilityTimeout": "7"})
-    assert lines_of(journal) == before
+    assert entries_of(journal) == before
     call("UntagQueue", QueueUrl="q.fifo", TagKeys=["a"])
-    assert lines_of(journal) == before + 2
+    assert entries_of(journal) == before + 1
     gateway.kill()
     gateway.start()
     assert ByJson(gateway.url)("ListQueueTags", QueueUrl="q.fifo")["Tags"] == {"b": "2"}

@@ -5,6 +5,7 @@ from __future__ import annotations
 import sys
 import time
 from concurrent.futures import ThreadPoolExecutor
+from pathlib import Path
 
 import pytest
 
@@ -19,11 +20,13 @@ def slow(tmp_path):
     wrapped.write_text(
         f"#!{sys.executable}\n"
         "import os, subprocess, sys, time\n"
-        f"if sys.argv[1] != 'session': sys.exit(subprocess.run([{program()!r}, *sys.argv[1:]]).returncode)\n"
-        f"cq = subprocess.Popen([{program()!r}, 'session'], stdin=subprocess.PIPE)\n"
-        "for line in sys.stdin.buffer:\n"
+        f"if sys.argv[1] != 'server': sys.exit(subprocess.run([{program()!r}, *sys.argv[1:]]).returncode)\n"
+        f"sys.path.insert(0, {str(Path(__file__).parent)!r})\n"
+        "import spoken\n"
+        f"cq = subprocess.Popen([{program()!r}, *sys.argv[1:]], stdin=subprocess.PIPE)\n"
+        "for frame in spoken.frames(sys.stdin.buffer):\n"
         f"    while os.path.exists({str(hold)!r}): time.sleep(0.01)\n"
-        "    cq.stdin.write(line); cq.stdin.flush()\n")
+        "    cq.stdin.write(frame); cq.stdin.flush()\n")
     wrapped.chmod(0o755)
     gateway = Started("--cq", str(wrapped), room=tmp_path)
     yield gateway, hold

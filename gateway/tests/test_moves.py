@@ -232,26 +232,28 @@ def test_two_queues_that_are_each_others_dead_letter_queue_wait_for_nobody(tmp_p
 
 MISNUMBERING = """#!{python}
 import os, subprocess, sys, threading
-if sys.argv[1] != 'session': sys.exit(subprocess.run([{program!r}, *sys.argv[1:]]).returncode)
+if sys.argv[1] != 'server': sys.exit(subprocess.run([{program!r}, *sys.argv[1:]]).returncode)
+sys.path.insert(0, {tests!r})
+import spoken
 cq = subprocess.Popen([{program!r}, *sys.argv[1:]], stdin=subprocess.PIPE, stdout=subprocess.PIPE)
 next_is_wrong = threading.Event()
 
 def pass_back():
-    for line in cq.stdout:
-        if next_is_wrong.is_set():
+    for frame in spoken.frames(cq.stdout):
+        if next_is_wrong.is_set() and spoken.is_answer(frame):
             next_is_wrong.clear()
-            line = line.replace(b'"number":', b'"number":1')
-        sys.stdout.buffer.write(line); sys.stdout.buffer.flush()
+            frame = spoken.misnumbered(frame)
+        sys.stdout.buffer.write(frame); sys.stdout.buffer.flush()
     os._exit(0)
 
 threading.Thread(target=pass_back, daemon=True).start()
-for line in sys.stdin.buffer:
+for frame in spoken.frames(sys.stdin.buffer):
     if os.path.exists({told!r}):
-        with open({told!r}, 'rb') as file: text = file.read()
-        if text and text in line:
+        with open({told!r}) as file: text = file.read()
+        if text and text in spoken.words(frame):
             os.unlink({told!r})
             next_is_wrong.set()
-    cq.stdin.write(line); cq.stdin.flush()
+    cq.stdin.write(frame); cq.stdin.flush()
 """
 
 
@@ -259,7 +261,8 @@ for line in sys.stdin.buffer:
 def test_an_answer_out_of_turn_neither_loses_nor_doubles_nor_stops(tmp_path, ask):
     """One answer in a move has another request's number."""
     cq, told = tmp_path / "cq", tmp_path / "told"
-    cq.write_text(MISNUMBERING.format(python=sys.executable, program=program(), told=str(told)))
+    tests = str(Path(__file__).parent)
+    cq.write_text(MISNUMBERING.format(python=sys.executable, program=program(), told=str(told), tests=tests))
     cq.chmod(0o755)
     gateway = Started("--journal", str(tmp_path / "journal"), "--no-pauses", "--cq", str(cq))
     try:

@@ -246,7 +246,7 @@ def test_health_and_metrics(gateway):
 def test_health_says_that_it_starts(tmp_path):
     """A program that takes its time for its first answer keeps the gateway starting."""
     slow = tmp_path / "slow"
-    slow.write_text(f'#!/bin/sh\n[ "$1" = session ] && sleep 3\nexec {os.environ["HOBBYCHAIR_CQ"]} "$@"\n')
+    slow.write_text(f'#!/bin/sh\n[ "$1" = server ] && sleep 3\nexec {os.environ["HOBBYCHAIR_CQ"]} "$@"\n')
     slow.chmod(0o755)
     process = subprocess.Popen(command("serve", "--port", "0", "--admin", "0", "--cq", str(slow)), env=environment(),
                                stdout=subprocess.PIPE, text=True)
@@ -417,7 +417,7 @@ def test_too_few_files_are_told(monkeypatch, tmp_path):
 
 def slow_start(tmp_path) -> subprocess.Popen:
     slow = tmp_path / "slow"
-    slow.write_text(f'#!/bin/sh\n[ "$1" = session ] && sleep 2\nexec {environment()["HOBBYCHAIR_CQ"]} "$@"\n')
+    slow.write_text(f'#!/bin/sh\n[ "$1" = server ] && sleep 2\nexec {environment()["HOBBYCHAIR_CQ"]} "$@"\n')
     slow.chmod(0o755)
     process = subprocess.Popen(command("serve", "--port", "0", "--admin", "0", "--cq", str(slow)), env=environment(),
                                stdout=subprocess.PIPE, text=True)

@@ -21,12 +21,13 @@ FIFO = {"FifoQueue": "true"}
 STAND_IN = """#!/usr/bin/python3
 import os, subprocess, sys, time
 real, told = {real!r}, {told!r}
-if sys.argv[1] != "session":
+if sys.argv[1] != "server":
     os.execv(real, [real, *sys.argv[1:]])
-lines = subprocess.Popen([real, *sys.argv[1:]], stdout=subprocess.PIPE).stdout
-for number, line in enumerate(iter(lines.readline, b"")):
+sys.path.insert(0, {tests!r})
+import spoken
+for number, frame in enumerate(spoken.frames(subprocess.Popen([real, *sys.argv[1:]], stdout=subprocess.PIPE).stdout)):
     what, _, after = (open(told).read() if os.path.exists(told) else "").partition(" ")
-    if what and number >= int(after or 0):
+    if what and number >= int(after or 0) and (spoken.is_answer(frame) or not what.endswith("misnumbered")):
         if what.startswith("once-"):
             os.unlink(told)
         what = what.removeprefix("once-")
@@ -34,9 +35,9 @@ for number, line in enumerate(iter(lines.readline, b"")):
             os.close(1)
         if what in ("close", "hang"):
             time.sleep(1000)
-        misnumbered = line.replace(b'"number":', b'"number":1')
-        line = {{"garbage": b"garbage\\n", "endless": b"x" * 100_000_000, "misnumbered": misnumbered}}[what]
-    sys.stdout.buffer.write(line)
+        garbage = {{"garbage": b"\\x02\\0\\0\\0\\x01\\x4d", "endless": b"x" * 100_000_000}}
+        frame = spoken.misnumbered(frame) if what == "misnumbered" else garbage[what]
+    sys.stdout.buffer.write(frame)
     sys.stdout.buffer.flush()
 """
 
@@ -45,7 +46,8 @@ class StandIn:
     def __init__(self, room: Path) -> None:
         self.told = room / "told"
         self.path = room / "stand-in"
-        self.path.write_text(STAND_IN.format(real=os.path.abspath(program()), told=str(self.told)))
+        tests = str(Path(__file__).parent)
+        self.path.write_text(STAND_IN.format(real=os.path.abspath(program()), told=str(self.told), tests=tests))
         self.path.chmod(0o755)
 
     def tell(self, what: str) -> None:
@@ -115,7 +117,7 @@ def test_without_a_journal_a_program_that_hangs_ends_the_gateway(stand_in):
 
 @pytest.mark.parametrize("what, said", [("garbage 2", "can't be read"), ("close 1", "went on")])
 def test_a_start_with_such_a_program_ends_and_says_why(tmp_path, stand_in, what, said):
-    """The first lines tell the store. However long that takes, it is waited for."""
+    """The first frames tell the store. However long that takes, it is waited for."""
     journal = ["--journal", str(tmp_path / "journal")]
     gateway = Started("--cq", str(stand_in.path), *journal)
     call = ByJson(gateway.url)
@@ -129,12 +131,12 @@ def test_a_start_with_such_a_program_ends_and_says_why(tmp_path, stand_in, what,
 
 
 def test_a_program_that_ends_at_whatever_it_is_asked_ends_the_gateway(tmp_path):
-    """The first line has what waits given, and those behind it are what it is asked again."""
+    """The first two commands have the store told, and those behind it are what it is asked again."""
     cq = SteeredCq(tmp_path)
     gateway = Started("--journal", str(tmp_path / "journal"), *cq.words())
     call = ByJson(gateway.url)
     call("CreateQueue", QueueName="q.fifo", Attributes=FIFO)
-    cq.tell(end='"op"', behind=1)
+    cq.tell(end='"op":"a', behind=2)
     with pytest.raises((OSError, Refused)):
         for number in range(5):
             send(call, number)
@@ -207,11 +209,13 @@ def test_cq_that_ends_at_every_request_ends_no_gateway(tmp_path):
     wrapped.write_text(
         f"#!{sys.executable}\n"
         "import subprocess, sys\n"
-        f"if sys.argv[1] != 'session': sys.exit(subprocess.run([{program()!r}, *sys.argv[1:]]).returncode)\n"
+        f"if sys.argv[1] != 'server': sys.exit(subprocess.run([{program()!r}, *sys.argv[1:]]).returncode)\n"
+        f"sys.path.insert(0, {str(Path(__file__).parent)!r})\n"
+        "import spoken\n"
         f"cq = subprocess.Popen([{program()!r}, *sys.argv[1:]], stdin=subprocess.PIPE)\n"
-        "for line in sys.stdin.buffer:\n"
-        "    if b'poison' in line: sys.exit(cq.kill())\n"
-        "    cq.stdin.write(line); cq.stdin.flush()\n")
+        "for frame in spoken.frames(sys.stdin.buffer):\n"
+        "    if b'poison' in frame: sys.exit(cq.kill())\n"
+        "    cq.stdin.write(frame); cq.stdin.flush()\n")
     wrapped.chmod(0o755)
     gateway = Started("--journal", str(tmp_path / "journal"), "--cq", str(wrapped))
     call = ByJson(gateway.url)

@@ -13,15 +13,18 @@ from pathlib import Path
 
 import pytest
 
-from started import START, ByJson, Refused, Started, files_of, names_in_store, program, programs_of, run
+from started import START, ByJson, Refused, Started, dumped, files_of, names_in_store, program, programs_of, run
 
 DAY = 24 * 3_600_000
 
-# Refuses requests and the lines behind them that a test names, as where there is no room. Each other line is passed on, and
-# those that have something answered one by one.
+# Refuses requests that a test names, as where there is no room, and what was given behind them in their streams. All else is passed
+# on, and answered one by one.
 FULL = """#!{python}
-import json, subprocess, sys, time
-if sys.argv[1] != 'session': sys.exit(subprocess.run([{program!r}, *sys.argv[1:]]).returncode)
+import json, subprocess, sys
+if sys.argv[1] != 'server': sys.exit(subprocess.run([{program!r}, *sys.argv[1:]]).returncode)
+sys.path.insert(0, {tests!r})
+import spoken
+STREAM_ENDED, NO_ROOM = 49, 70
 
 def told():
     try:
@@ -29,40 +32,36 @@ def told():
     except (OSError, ValueError): return {{}}
 
 cq = subprocess.Popen([{program!r}, *sys.argv[1:]], stdin=subprocess.PIPE, stdout=subprocess.PIPE)
-out, passed = sys.stdout.buffer, 0
-def answer(text):
-    out.write(text)
-    out.flush()
-def refuse():
-    answer(b'{{"line":%d,"name":"NoRoom","refused":70}}\\n' % (line + 1))
-while True:
-    text = cq.stdout.readline()
-    if not text: sys.exit(cq.wait())
-    answer(text)
-    if b'"ready"' in text: break
-line, is_refused = json.loads(text)['lines'], False
-for text in sys.stdin.buffer:
-    orders = told()
-    if text.startswith(b'{{"op":"put"'):
-        if is_refused and orders.get('puts') or not is_refused and orders.get('answers'):
-            # The request is kept by then.
-            if not is_refused: time.sleep(0.5)
-            refuse()
-            is_refused = False
+responses, ended, passed = spoken.frames(cq.stdout), 0, 0
+def tell(frames):
+    sys.stdout.buffer.write(b''.join(frames))
+    sys.stdout.buffer.flush()
+def comes_of(frame):
+    cq.stdin.write(frame); cq.stdin.flush()
+    return spoken.answer(responses)
+try:
+    tell(spoken.answer(responses))
+except StopIteration:
+    sys.exit(cq.wait())
+for frame in spoken.frames(sys.stdin.buffer):
+    orders, command = told(), spoken.command(frame)
+    if command['op'] == 'arrive':
+        text = spoken.words(frame)
+        if command['stream'] <= ended:
+            tell([spoken.refusal(STREAM_ENDED)])
             continue
-        is_refused = False
-        line += 1
-        cq.stdin.write(text); cq.stdin.flush()
-        answer(cq.stdout.readline())
-        continue
-    if len(text) > orders.get('longer', 0) and any(word in text.decode() for word in orders.get('refuse', [])):
-        passed += 1
-        if passed > orders.get('pass', 0):
-            is_refused = True
-            refuse()
-            continue
-    line += 1
-    cq.stdin.write(text); cq.stdin.flush()
+        if len(text) > orders.get('longer', 0) and any(word in text for word in orders.get('refuse', [])):
+            passed += 1
+            if passed > orders.get('pass', 0):
+                ended = command['stream']
+                tell([spoken.refusal(NO_ROOM)])
+                continue
+        if orders.get('answers'):
+            # It is kept, and isn't answered any more.
+            comes_of(frame)
+            with open({orders!r}, 'w') as file: json.dump({{'refuse': ['"op":"arrive"']}}, file)
+            sys.exit(cq.kill())
+    tell(comes_of(frame))
 """
 
 
@@ -71,7 +70,8 @@ class Full:
 
     def __init__(self, room: Path, *words: str) -> None:
         self.orders, cq, self.journal = room / "orders", room / "full-cq", room / "journal"
-        cq.write_text(FULL.format(python=sys.executable, program=program(), orders=str(self.orders)))
+        tests = str(Path(__file__).parent)
+        cq.write_text(FULL.format(python=sys.executable, program=program(), orders=str(self.orders), tests=tests))
         cq.chmod(0o755)
         words = (*words, "--no-pauses", "--cq", str(cq))
         self.gateway = Started("--journal", str(self.journal), *words, room=room)
@@ -80,8 +80,8 @@ class Full:
         return ByJson(self.gateway.url)(action, **members)
 
     def tell(self, *texts: str, **more) -> None:
-        """Lines with one of these texts have no room, if they are `longer` than that, and behind the first ones that `pass`.
-        With `puts` the lines behind them have none either, and with `answers` those behind all others."""
+        """Requests with one of these texts, as lines of JSON, have no room, if they are `longer` than that, and behind the first ones
+        that `pass`. With `answers` the next one is done, `cq` ends before it answers, and no request has room then."""
         new = self.orders.with_suffix(".new")
         new.write_text(json.dumps({"refuse": texts, **more}))
         new.replace(self.orders)
@@ -111,8 +111,7 @@ def refused(full: Full, action: str, **members) -> tuple[str, int]:
     return refusal.value.code, refusal.value.status
 
 
-@pytest.mark.parametrize("puts", [False, True])
-def test_what_has_no_room_is_refused_by_its_kind_and_changes_nothing(full, puts):
+def test_what_has_no_room_is_refused_by_its_kind_and_changes_nothing(full):
     for name in ("q", "f.fifo"):
         kind = {"FifoQueue": "true"} if name.endswith(".fifo") else {}
         full.call("CreateQueue", QueueName=name, Attributes={**kind, "VisibilityTimeout": "600"})
@@ -120,7 +119,7 @@ def test_what_has_no_room_is_refused_by_its_kind_and_changes_nothing(full, puts)
     (message,) = full.call("ReceiveMessage", QueueUrl="q")["Messages"]
     receipt = {"QueueUrl": "q", "ReceiptHandle": message["ReceiptHandle"]}
     kinds, programs = ("create", "remove", "send", "receive", "delete", "change"), programs_of(full.gateway)
-    full.tell(*(f'"kind":"{kind}"' for kind in kinds), '"op":"ask"', puts=puts)
+    full.tell(*(f'"kind":"{kind}"' for kind in kinds))
     assert refused(full, "SendMessage", QueueUrl="q", MessageBody="x") == ("OverLimit", 403)
     assert refused(full, "SendMessage", QueueUrl="q", MessageBody="x" * 300_000) == ("OverLimit", 403)
     assert refused(full, "CreateQueue", QueueName="r") == ("OverLimit", 403)
@@ -342,7 +341,7 @@ def test_a_day_of_a_pause_counts_where_there_is_no_room_to_say_so_at_first(full)
     full.gateway.start()
     assert full.bodies("q") == ["m"]
     full.tell()
-    wait_for(lambda: '\\"jump\\":' in run("dump", str(full.journal)).stdout)
+    wait_for(lambda: b'"jump":' in dumped(full.journal))
     full.gateway.kill()
     full.gateway.start()
     assert full.bodies("q") == ["m"]

@@ -5,10 +5,12 @@ use std::fmt;
 
 use bytes::Bytes;
 
-use crate::parts::{frame, Malformed, Parts, Reader};
+use crate::parts::{append_frame, frame, Malformed, Parts, Reader};
 
 /// There was no memory for the command.
 pub const NO_MEMORY: u32 = 20;
+/// The server's journal has no room for the entry.
+pub const NO_ROOM: u32 = 70;
 /// The process isn't the head of its chain.
 pub const NOT_HEAD: u32 = 40;
 /// The message isn't the next one of its link, or its sender is gone.
@@ -107,12 +109,16 @@ pub struct Standing {
 impl Command {
     pub fn frame(&self) -> Vec<u8> {
         match self {
-            Command::Arrive { stream, clock, request } => frame(0, |out| {
-                out.number64(*stream);
-                out.number64(*clock);
-                out.extend_from_slice(request);
-            }),
-            Command::Ask { query } => frame(1, |out| out.extend_from_slice(query)),
+            Command::Arrive { stream, clock, request } => {
+                let mut bytes = Vec::new();
+                append_arrival(&mut bytes, *stream, *clock, |out| out.extend_from_slice(request));
+                bytes
+            }
+            Command::Ask { query } => {
+                let mut bytes = Vec::new();
+                append_query(&mut bytes, |out| out.extend_from_slice(query));
+                bytes
+            }
             Command::Take { from, place, piece } => frame(2, |out| {
                 put_party(out, *from);
                 out.number64(place.number);
@@ -127,6 +133,20 @@ impl Command {
             Command::Load(chunk) => frame(8, |out| out.run(chunk)),
         }
     }
+}
+
+/// Appends the command that a request arrives, which `write` writes.
+pub fn append_arrival(out: &mut Vec<u8>, stream: u64, clock: u64, write: impl FnOnce(&mut Vec<u8>)) {
+    append_frame(out, 0, |out| {
+        out.number64(stream);
+        out.number64(clock);
+        write(out);
+    });
+}
+
+/// Appends the command that a query is asked, which `write` writes.
+pub fn append_query(out: &mut Vec<u8>, write: impl FnOnce(&mut Vec<u8>)) {
+    append_frame(out, 1, write);
 }
 
 impl Response {

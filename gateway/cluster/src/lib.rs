@@ -15,7 +15,7 @@ mod certificates;
 mod child;
 mod clock;
 pub mod command_line;
-mod commands;
+pub mod commands;
 mod cut;
 mod decision;
 mod etcd;

@@ -138,11 +138,18 @@ impl Parts for Vec<u8> {
 
 /// A whole frame: its length, the version, its kind, and what `write` writes.
 pub fn frame(kind: u8, write: impl FnOnce(&mut Vec<u8>)) -> Vec<u8> {
-    let mut bytes = vec![0, 0, 0, 0, VERSION, kind];
-    write(&mut bytes);
-    let length = (bytes.len() - 4) as u32;
-    bytes[..4].copy_from_slice(&length.to_le_bytes());
+    let mut bytes = Vec::new();
+    append_frame(&mut bytes, kind, write);
     bytes
+}
+
+/// Appends a whole frame.
+pub fn append_frame(out: &mut Vec<u8>, kind: u8, write: impl FnOnce(&mut Vec<u8>)) {
+    let start = out.len();
+    out.extend_from_slice(&[0, 0, 0, 0, VERSION, kind]);
+    write(out);
+    let length = (out.len() - start - 4) as u32;
+    out[start..start + 4].copy_from_slice(&length.to_le_bytes());
 }
 
 /// Cuts a stream of bytes into frames.

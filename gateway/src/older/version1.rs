@@ -114,7 +114,7 @@ pub async fn convert(program: &str, bytes: &[u8]) -> Result<Vec<u8>, ReplayError
         // It was cut off before it had anything.
         return Ok(Vec::new());
     }
-    let mut cq = Cq::start(program)?;
+    let mut cq = Cq::start_session(program, None)?;
     let mut conversion = Conversion::default();
     for text in texts(bytes)? {
         conversion.records += 1;

@@ -24,7 +24,7 @@ pub enum Entry {
     Removed(Removal),
     /// How a task stands that moves messages out of the queue of this mark.
     Task(u64, MoveTask),
-    /// Which program has the book, where programs keep their lines themselves.
+    /// Which program has the book, where programs keep their entries themselves.
     Program(ProgramEntry),
     /// Where programs do so: what a receive with an attempt id was given.
     Attempt(AttemptEntry),
@@ -71,7 +71,7 @@ pub struct Removal {
     pub at: Moment,
 }
 
-/// A program that keeps its lines itself.
+/// A program that keeps its entries itself.
 #[derive(Clone, Debug, PartialEq, Eq, Serialize, Deserialize)]
 pub struct ProgramEntry {
     pub place: usize,

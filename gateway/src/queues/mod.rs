@@ -149,7 +149,7 @@ pub struct Queues {
     jumps: Jumps,
     copies: Copies,
     parts: Parts,
-    /// Of programs that keep their lines themselves, by their places.
+    /// Of programs that keep their entries themselves, by their places.
     secrets: Mutex<HashMap<usize, Uuid>>,
     /// Queues that tasks have moved messages out of, by their marks, and the places of the programs that have them.
     tasked: Mutex<HashMap<u64, (usize, Weak<Queue>)>>,

@@ -21,8 +21,8 @@ use uuid::Uuid;
 use crate::budget::Share;
 use crate::clock::{Clock, Moment};
 use crate::errors::SqsError;
+use crate::frames;
 use crate::handles::{Mark, Receipt};
-use crate::lines;
 use crate::queues::ask::{Ask, Cause, Handed, Outcome, PartsAsk, Reach, StoreName, TableChange};
 use crate::queues::book::Entry;
 use crate::queues::shards::Shards;
@@ -33,9 +33,9 @@ use figures::Counters;
 
 pub use beside_node::{take_up as take_up_from_node, wait_for as wait_beside_node};
 pub use figures::Figures;
-pub use replay::{replay_all, ReplayError, Replayed, Tables};
+pub use replay::{replay_all, start_session, ReplayError, Tables};
 pub use task::{start, Ends, Kept, NodeStart, Start};
-pub use told::{start as start_told, Ready, ToldError};
+pub use told::{start as start_told, Ready};
 
 tokio::task_local! {
     /// Up to which moment who asks wants its answer, where that is known.
@@ -172,7 +172,7 @@ pub struct Store {
     shards: Shards,
     queues: Arc<Queues>,
     clock: Arc<Clock>,
-    /// The programs keep their lines themselves.
+    /// The programs keep their entries themselves.
     is_kept: bool,
     /// A chain of servers keeps the store, and a node carries what is asked.
     is_of_chain: bool,
@@ -189,7 +189,7 @@ impl Store {
         &self.clock
     }
 
-    /// Whether the programs keep their lines themselves. Then all that is to outlive the gateway stands in their stores.
+    /// Whether the programs keep their entries themselves. Then all that is to outlive the gateway stands in their stores.
     pub fn is_kept(&self) -> bool {
         self.is_kept
     }
@@ -548,7 +548,7 @@ impl Held {
 fn runs_of(copies: Vec<Copy>) -> Vec<Vec<Copy>> {
     let (mut runs, mut last): (Vec<Vec<Copy>>, usize) = (Vec::new(), usize::MAX);
     for copy in copies {
-        let length = lines::length_of(&copy.ask);
+        let length = frames::length_of(&copy.ask);
         if length < last {
             runs.push(Vec::new());
         }
@@ -594,8 +594,7 @@ mod tests {
             let (envelope, cause) = (Envelope::Whole(body.into()), Cause::Move(Origin { mark: 1, sequence }));
             Copy { sequence, ask: Ask::Send { group, dedup, envelope, cause } }
         };
-        // In a line a quotation mark takes two bytes.
-        let bodies = ["aa", "bb", "\"b", "cc", "dddd", "d", "eee", "\"\"\"", "ffffff"];
+        let bodies = ["aa", "bb", "\"bb", "cc", "dddd", "d", "eee", "\"\"\"\"", "ffffff"];
         let runs = runs_of((1..).zip(bodies).map(copy).collect());
         let runs: Vec<Vec<_>> = runs.iter().map(|run| run.iter().map(|copy| copy.sequence).collect()).collect();
         assert_eq!(runs, [vec![1, 2, 3], vec![4, 5], vec![6, 7, 8, 9]]);

@@ -1,4 +1,5 @@
-//! Brings a fresh program to where a journal of an earlier version is, and compares each reply with the one that was given.
+//! Brings a fresh session to where a journal of an earlier version is, by lines, and compares each reply with the one that was
+//! given.
 //!
 //! Several programs share one journal, each its own queues. The records of one stand there in the order in which it
 //! answered, with clocks that never fall; between records of two nothing is kept, since their answers come as they
@@ -57,8 +58,7 @@ pub struct Replayed {
     pub records: u64,
     /// The latest clock of these.
     pub latest: Moment,
-    /// The number of the last line that the program counted, and of the last request.
-    pub line: u64,
+    /// The number of the last request.
     pub number: u64,
 }
 
@@ -116,8 +116,6 @@ struct Replay {
     out: BytesMut,
     records: u64,
     asked: u64,
-    /// The number of the last line that the program counted.
-    line: u64,
     last_clock: Moment,
     latest: Moment,
     /// The journal has no more records.
@@ -128,6 +126,10 @@ struct Replay {
 
 #[cfg(test)]
 mod tests;
+
+mod starting;
+
+pub use starting::start_session;
 
 const CLIENTS: u64 = 256;
 const PIECE: usize = 256 * 1024;
@@ -228,8 +230,8 @@ async fn replay(
     }
     reader.await.map_err(|error| OlderError::Io(error.to_string()))??;
     replay.leave_over();
-    let Replay { records, latest, line, asked, .. } = replay;
-    Ok(Replayed { cq, records, latest, line, number: asked })
+    let Replay { records, latest, asked, .. } = replay;
+    Ok(Replayed { cq, records, latest, number: asked })
 }
 
 impl Replay {
@@ -251,7 +253,6 @@ impl Replay {
             out: BytesMut::new(),
             records: 0,
             asked: 0,
-            line: 0,
             last_clock: 0,
             latest: 0,
             is_read: false,
@@ -462,12 +463,9 @@ impl Replay {
             };
             let output = lines::read_output(line)?;
             let (answered, reply, text) = match output {
-                OutputLine::Answer { number: answered, reply, text, line, .. } => {
-                    self.line = line;
-                    (answered, reply, text)
-                }
-                OutputLine::Refused { code: NO_ROOM, .. } => return Err(ReplayError::NoRoom),
-                _ => return Err(ReplayError::OtherReply(number)),
+                OutputLine::Answer { number: answered, reply, text, .. } => (answered, reply, text),
+                OutputLine::Refused { code: NO_ROOM } => return Err(ReplayError::NoRoom),
+                OutputLine::Refused { .. } => return Err(ReplayError::OtherReply(number)),
             };
             let (number, digest, clock, subject) = match self.waiting.pop_front() {
                 Some(Unanswered::Ask { number, digest, clock, subject }) => (number, digest, clock, subject),

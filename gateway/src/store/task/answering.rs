@@ -1,36 +1,38 @@
 //! Answers: what the program said, and who is told.
 
+use tokio::time::Instant;
+
+use super::chain::Chain;
 use super::entries::{Entry, Open, OpenAsk};
-use super::room::{adds, refusal_for_room};
 use super::{Ended, Task};
 use crate::errors::SqsError;
-use crate::lines::{self, OutputLine, StoreReply, NO_ROOM};
+use crate::lines::StoreReply;
 use crate::queues::ask::{Ask, Outcome};
 use crate::store::{Answer, AnswerSender};
 
 impl Task {
     pub(super) fn read_answers(&mut self) -> Result<(), Ended> {
-        if self.chain.is_some() {
-            return self.read_frames();
+        match self.chain {
+            Some(_) => self.read_frames(),
+            None => self.read_responses(),
         }
-        let Some(end) = memchr::memrchr(b'\n', &self.incoming) else { return Ok(()) };
-        let whole = self.incoming.split_to(end + 1);
-        for line in lines::split_lines(&whole[..end]) {
-            match lines::read_output(line)? {
-                OutputLine::Nothing { line } => (self.line, self.is_put_next) = (line, false),
-                OutputLine::Refused { code: NO_ROOM, line } => self.no_room(line)?,
-                OutputLine::Refused { code, line } => {
-                    self.line = line;
-                    self.refused(code)?;
-                }
-                OutputLine::Answer { client, number, reply, line, .. } => {
-                    self.line = line;
-                    self.answered(client, number, reply)?;
-                }
-            }
-            self.finish_ready();
+    }
+
+    /// When there is something to ask again.
+    pub(super) fn due(&self) -> Option<Instant> {
+        self.chain.as_ref().map_or_else(|| self.server.due(), Chain::due)
+    }
+
+    pub(super) fn ask_what_is_due(&mut self) {
+        match self.chain {
+            Some(_) => self.ask_chain_what_is_due(),
+            None => self.give_what_is_due(),
         }
-        Ok(())
+    }
+
+    /// Whether nothing new is asked: what is open is to be asked again first.
+    pub(super) fn is_stopped(&self) -> bool {
+        self.is_chain_stopped() || self.server.is_stopped()
     }
 
     /// Takes the entry at the front, if that is the one which the program answers. One that it doesn't answer stays open:
@@ -40,50 +42,6 @@ impl Task {
             Some(open) if is_answered(&open.entry) => self.open.pop_front(),
             _ => None,
         }
-    }
-
-    /// The program's journal has no room for a line. That of a request did nothing, and is told so. Behind it stands the
-    /// line that should have given its answer, which is refused, too, or is answered by nothing.
-    fn no_room(&mut self, line: u64) -> Result<(), Ended> {
-        if std::mem::take(&mut self.is_put_next) {
-            return Ok(());
-        }
-        if line != self.line + 1 {
-            return Err(Ended::Full);
-        }
-        let next = self.take_next(|entry| !matches!(entry, Entry::Ready(_)));
-        let Some(Open { entry, sender }) = next else { return Err(Ended::NotNext { client: 0, number: 0 }) };
-        (self.is_put_next, self.ends) = (true, 0);
-        match entry {
-            Entry::Ask(asked) if asked.is_done => return Err(Ended::Full),
-            Entry::Ask(asked) => {
-                self.close(&asked);
-                self.admission.answered(asked.weight);
-                self.counters.count_lack_of_room();
-                self.finish(Err(refusal_for_room(adds(&asked.ask))), sender);
-                self.go_on_with(&asked, false)?;
-            }
-            // It is seen to answer all the same.
-            Entry::Moment { .. } if sender.is_some() => self.finish(Ok(Outcome::Done), sender),
-            Entry::Count { .. } => self.finish(Err(refusal_for_room(false)), sender),
-            Entry::Moment { .. } | Entry::Probe { .. } | Entry::Ready(_) => {}
-        }
-        Ok(())
-    }
-
-    fn refused(&mut self, code: u32) -> Result<(), Ended> {
-        let next = self.take_next(|entry| matches!(entry, Entry::Ask(_)));
-        let Some(Open { entry: Entry::Ask(asked), sender }) = next else {
-            return Err(Ended::NotNext { client: 0, number: 0 });
-        };
-        (self.is_put_next, self.ends) = (true, 0);
-        self.close(&asked);
-        self.admission.answered(asked.weight);
-        let start = String::from_utf8_lossy(&asked.written[..asked.written.len().min(200)]);
-        // A client may have said what stands in it.
-        tracing::warn!("cq refused a line ({code}): {start:?}");
-        self.finish(Err(SqsError::of_refusal(code)), sender);
-        self.go_on_with(&asked, false)
     }
 
     pub(super) fn answered(&mut self, client: u32, number: u64, reply: StoreReply) -> Result<(), Ended> {
@@ -132,7 +90,7 @@ impl Task {
     }
 
     /// Goes on with the move of which this was a copy, if it was one.
-    fn go_on_with(&mut self, asked: &OpenAsk, is_done: bool) -> Result<(), Ended> {
+    pub(super) fn go_on_with(&mut self, asked: &OpenAsk, is_done: bool) -> Result<(), Ended> {
         asked.original.map_or(Ok(()), |original| self.copy_answered(original, is_done))
     }
 

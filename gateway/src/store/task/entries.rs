@@ -30,7 +30,6 @@ pub(super) enum Entry {
     /// The request that moves the store's moment on, to this one, before a count.
     Moment {
         moment: Moment,
-        /// 0 where the program answers all in order.
         number: u64,
     },
     Count {
@@ -48,7 +47,7 @@ pub(super) enum Entry {
 }
 
 impl Entry {
-    /// By which its answer is known, where answers don't come in order.
+    /// By which its answer is known. No two that are open have the same.
     pub(super) fn number(&self) -> Option<u64> {
         match self {
             Entry::Ask(asked) => Some(asked.number),

@@ -1,5 +1,5 @@
-//! The task that owns the program's pipe: it writes all asks that wait with one call, reads answers in large pieces,
-//! and hands each to who asked.
+//! The task that owns the pipe of a program, or of a node: it writes all asks that wait with one call, reads answers in large
+//! pieces, and hands each to who asked.
 
 mod answering;
 mod chain;
@@ -8,6 +8,7 @@ mod entries;
 mod moving;
 mod outgoing;
 mod room;
+mod server;
 mod space;
 mod starting;
 
@@ -29,17 +30,17 @@ use super::{AnswerSender, Answers, Hold, Holds, Job, Operation, Store};
 use crate::clock::{Clock, Moment};
 use crate::cq::{Cq, CqError, KeptFile};
 use crate::errors::SqsError;
-use crate::lines::BadOutput;
+use crate::frames::BadFrame;
 use crate::queues::shards::{Shard, Shards};
 use crate::queues::{Queue, Queues};
 use crate::store_bytes::{Part, StoreReader};
-use crate::texts::STORE_LIMIT;
 use chain::Chain;
 use clients::{Clients, CLIENTS};
 use entries::{Entry, Open, OpenAsk, Pending};
 use moving::Moving;
 use outgoing::Outgoing;
 pub(super) use room::is_for_client;
+use server::Server;
 use space::Space;
 
 /// Why the store doesn't go on.
@@ -48,11 +49,13 @@ pub enum Ended {
     #[error(transparent)]
     Cq(#[from] CqError),
     #[error(transparent)]
-    BadOutput(#[from] BadOutput),
+    BadFrame(#[from] BadFrame),
     #[error("cq answered client {client}'s request {number}, which isn't the next one")]
     NotNext { client: u32, number: u64 },
-    #[error("a line for cq can't be written: {0}")]
-    Line(#[from] serde_json::Error),
+    #[error("cq is done with request {0}, and gave no answer")]
+    Unanswered(u64),
+    #[error("an entry of the book can't be written: {0}")]
+    Entry(#[from] serde_json::Error),
     #[error("the node and this gateway don't understand each other: {0}")]
     Malformed(#[from] Malformed),
     #[error("a server can't read a request ({0})")]
@@ -63,8 +66,15 @@ pub enum Ended {
     #[error("nobody asks any more")]
     NobodyAsks,
     /// What was asked is done, and its answer can't be had.
-    #[error("cq has no room left to give an answer: its journal is full to the last byte")]
+    #[error("cq has no room left to answer what it did before it ended: its journal is full")]
     Full,
+}
+
+impl Ended {
+    /// Whether the program is gone, or as good as that: another one may do better.
+    fn is_of_program(&self) -> bool {
+        matches!(self, Ended::Cq(_) | Ended::BadFrame(_) | Ended::NotNext { .. } | Ended::Unanswered(_))
+    }
 }
 
 /// No more is read from the pipe, or gathered for it, at once.
@@ -73,9 +83,6 @@ const PIECE: usize = 256 * 1024;
 /// A program that ends so often and answers nothing in between isn't started again. What an ask does to it each time
 /// doesn't add up, however often that is asked: behind one that is given up the program is asked for something else.
 const MOST_ENDS_IN_A_ROW: u32 = 8;
-
-/// The longest line of the program: ten bodies, of which each byte may be written as six.
-const LONGEST_LINE: usize = 10 * 6 * STORE_LIMIT + PIECE;
 
 /// An ask may be with the program at this many ends of it, and no more.
 const MOST_ENDS: u32 = 2;
@@ -89,12 +96,10 @@ struct Task {
     clock: Arc<Clock>,
     /// What is known of a chain that keeps the store, where one does.
     chain: Option<Chain>,
-    /// Where the program keeps its lines, if it does.
+    /// What is known of the program, where one keeps the store.
+    server: Server,
+    /// Where the program keeps its entries, if it does.
     file: Option<KeptFile>,
-    /// The number of the last line that the program has counted, as it tells it.
-    line: u64,
-    /// The next line of output is that of the line which should have given a refused request's answer.
-    is_put_next: bool,
     space: Space,
     admission: Arc<Admission>,
     counters: Arc<Counters>,
@@ -132,7 +137,7 @@ pub struct Start {
     pub node: Option<NodeStart>,
     pub queues: Arc<Queues>,
     pub clock: Arc<Clock>,
-    /// Of programs that keep their lines: where, and how they began.
+    /// Of programs that keep their entries: where, and how they began.
     pub kept: Option<Kept>,
     /// The bound of memory, in bytes.
     pub memory: Option<u64>,
@@ -149,11 +154,11 @@ pub struct NodeStart {
     pub incoming: BytesMut,
 }
 
-/// What is known of programs that keep their lines.
+/// What is known of programs that keep their entries.
 pub struct Kept {
     pub files: Vec<KeptFile>,
-    /// Of each, by its place: the number of the last line that it counted, and the largest number of a request.
-    pub begun: Vec<(u64, u64)>,
+    /// The largest number of a request that each was given, by its place.
+    pub begun: Vec<u64>,
 }
 
 /// Why tasks have ended, one after the other. It comes to its end once all of them and their programs have.
@@ -170,7 +175,7 @@ pub fn start(mut start: Start) -> (Store, Ends) {
         jobs.push(queue);
         let begun = start.kept.as_ref().and_then(|kept| kept.begun.get(shard.place()).copied());
         // Numbers in use begin above all that any earlier run can have used.
-        let (line, largest) = begun.unwrap_or_else(|| (0, start.clock.now() << 20));
+        let largest = begun.unwrap_or_else(|| start.clock.now() << 20);
         let last_number = start.node.as_ref().map_or(largest, |node| chain::number_before(largest, node.server));
         let file = start.kept.as_ref().and_then(|kept| kept.files.get(shard.place()).cloned());
         let length = file.as_ref().and_then(|file| std::fs::metadata(&file.path).ok()).map(|found| found.len());
@@ -182,9 +187,8 @@ pub fn start(mut start: Start) -> (Store, Ends) {
             queues: start.queues.clone(),
             clock: start.clock.clone(),
             chain: start.node.is_some().then(Chain::default),
+            server: Server::default(),
             file,
-            line,
-            is_put_next: false,
             space: Space::new(length),
             admission: admission.clone(),
             counters: counters.clone(),
@@ -230,10 +234,8 @@ impl Task {
             match self.turn(&mut jobs).await {
                 Ok(()) => {}
                 Err(ended) => {
-                    let gone = matches!(ended, Ended::Cq(_) | Ended::BadOutput(_) | Ended::NotNext { .. });
-                    let Some(file) = self.file.clone().filter(|_| gone && self.ends < MOST_ENDS_IN_A_ROW) else {
-                        return ended;
-                    };
+                    let may_go_on = ended.is_of_program() && self.ends < MOST_ENDS_IN_A_ROW;
+                    let Some(file) = self.file.clone().filter(|_| may_go_on) else { return ended };
                     tracing::error!("{ended}");
                     if let Err(ended) = self.start_again_on(&file).await {
                         return ended;
@@ -250,14 +252,11 @@ impl Task {
         self.send_answers();
         self.count_open();
         self.cq.output.is_awaited = !self.open.is_empty();
-        let due = self.chain.as_ref().and_then(Chain::due);
+        let due = self.due();
         tokio::select! {
             biased;
             read = self.cq.output.read_buf(&mut self.incoming) => match read {
                 Ok(0) => return Err(self.cq.end().await.into()),
-                Ok(_) if self.incoming.len() > LONGEST_LINE => {
-                    return Err(CqError::Gone("its line doesn't end".into()).into());
-                }
                 Ok(_) => self.read_answers()?,
                 Err(error) => return Err(CqError::Gone(error.to_string()).into()),
             },
@@ -266,7 +265,7 @@ impl Task {
                 // The end of its output tells how it ended.
                 Err(_) => self.out.clear(),
             },
-            () = wait_until(due), if due.is_some() => self.ask_what_is_due()?,
+            () = wait_until(due), if due.is_some() => self.ask_what_is_due(),
             job = jobs.recv(), if self.pending.len() < 4 * CLIENTS as usize => {
                 let Some(job) = job else { return Err(Ended::NobodyAsks) };
                 self.take(job);
@@ -340,7 +339,7 @@ impl Task {
         }
     }
 
-    /// Starts a program again that keeps its lines, and asks what is open once more, as it was asked the first time: what
+    /// Starts a program again that keeps its entries, and asks what is open once more, as it was asked the first time: what
     /// was done by then has its kept reply. So the tables stay what they are.
     async fn start_again_on(&mut self, file: &KeptFile) -> Result<(), Ended> {
         self.ends += 1;
@@ -357,8 +356,8 @@ impl Task {
             });
             Ok(read?)
         };
-        let ready = told::start(&self.program, file, self.patience, &mut take).await?;
-        (self.cq, self.line, self.is_put_next) = (ready.cq, ready.line, false);
+        let ready = told::start(&self.program, file, self.patience, Some(&mut take)).await?;
+        (self.cq, self.server) = (ready.cq, Server::default());
         self.incoming.clear();
         self.out.clear();
         self.waits_for_answer = false;
@@ -373,7 +372,7 @@ impl Task {
         let mut given_up = None;
         let mut copies_given_up = Vec::new();
         for open in std::mem::take(&mut self.open) {
-            let entry = match self.repeat(open.entry, &is_done)? {
+            let entry = match self.repeat(open.entry, &is_done) {
                 Again::Open(entry) => entry,
                 Again::GivenUp(queue, original) => {
                     given_up = Some(queue);
@@ -388,15 +387,15 @@ impl Task {
             self.copy_answered(original, false)?;
         }
         if let Some(queue) = given_up {
-            let entry = self.probe(queue)?;
+            let entry = self.probe(queue);
             self.open.push_back(Open { entry, sender: None });
         }
         Ok(())
     }
 
     /// Asks once more, under the same number. What the program has done isn't given up: it has its kept reply.
-    fn repeat(&mut self, entry: Entry, is_done: impl Fn(&OpenAsk) -> bool) -> Result<Again, Ended> {
-        Ok(Again::Open(match entry {
+    fn repeat(&mut self, entry: Entry, is_done: impl Fn(&OpenAsk) -> bool) -> Again {
+        match entry {
             Entry::Ask(mut asked) => {
                 asked.ends += 1;
                 asked.is_done = is_done(&asked);
@@ -404,23 +403,20 @@ impl Task {
                     self.clients.give_back(asked.client);
                     self.forget_open(&asked.ask);
                     self.admission.answered(asked.weight);
-                    return Ok(Again::GivenUp(asked.queue, asked.original));
+                    return Again::GivenUp(asked.queue, asked.original);
                 }
-                self.write(&asked)?;
-                Entry::Ask(asked)
-            }
-            Entry::Count { tag, queue, least } => {
-                self.write_count(tag, &queue)?;
-                Entry::Count { tag, queue, least }
-            }
-            Entry::Probe { tag, queue } => {
-                self.write_count(tag, &queue)?;
-                Entry::Probe { tag, queue }
+                self.write(&asked);
+                Again::Open(Entry::Ask(asked))
             }
             // Whatever is asked behind it has its first clock, too.
-            Entry::Moment { moment, number } => self.moment_at(moment, number)?,
-            other => other,
-        }))
+            Entry::Moment { moment, number } => Again::Open(self.moment_at(moment, number)),
+            entry => {
+                if let Entry::Count { tag, queue, .. } | Entry::Probe { tag, queue } = &entry {
+                    self.write_count(*tag, queue);
+                }
+                Again::Open(entry)
+            }
+        }
     }
 }
 

@@ -11,6 +11,7 @@ use super::starting::stamped;
 use super::{Ended, Task};
 use crate::clock::Moment;
 use crate::errors::SqsError;
+use crate::frames;
 use crate::lines::AskFields;
 use crate::queues::ask::Ask;
 use crate::queues::Queue;
@@ -50,32 +51,24 @@ impl Task {
         let copies: Vec<_> =
             copies.into_iter().map(|copy| Copy { ask: stamped(copy.ask, &target, moment), ..copy }).collect();
         for copy in &copies {
-            asked.push(self.encode(&AskFields::of(store, base, &copy.ask))?);
+            asked.push(frames::ask(&AskFields::of(store, base, &copy.ask))?);
         }
         self.moving = Some(Moving { source, left: copies.len(), copied: Vec::new(), sender: sender.take() });
         for (copy, written) in copies.into_iter().zip(asked) {
-            self.begin(target.clone(), copy.ask, written, moment, Some(copy.sequence))?;
+            self.begin(target.clone(), copy.ask, written, moment, Some(copy.sequence));
         }
         Ok(StartOutcome::Begun)
     }
 
     /// Asks the program for a copy, or for the deletion of an original.
-    fn begin(
-        &mut self,
-        queue: Arc<Queue>,
-        ask: Ask,
-        written: Vec<u8>,
-        moment: Moment,
-        original: Option<u64>,
-    ) -> Result<(), Ended> {
+    fn begin(&mut self, queue: Arc<Queue>, ask: Ask, written: Vec<u8>, moment: Moment, original: Option<u64>) {
         // There are as many free clients as copies, and a copy that is answered frees its own.
         let client = self.clients.take(false).unwrap_or(CLIENTS);
         let number = self.next_number();
         let asked =
             OpenAsk { queue, ask, written, moment, client, number, weight: 0, ends: 0, is_done: false, original };
-        self.write(&asked)?;
+        self.write(&asked);
         self.open.push_back(Open { entry: Entry::Ask(Box::new(asked)), sender: None });
-        Ok(())
     }
 
     /// A copy was answered, or given up. Behind the last one the originals go.
@@ -103,8 +96,8 @@ impl Task {
             let receipt = source.state().last_receipt_of(original);
             let Some(receipt) = receipt else { continue };
             let ask = Ask::Delete { receipt, by_client: false };
-            let written = self.encode(&AskFields::of(store, base, &ask))?;
-            self.begin(source.clone(), ask, written, moment, None)?;
+            let written = frames::ask(&AskFields::of(store, base, &ask))?;
+            self.begin(source.clone(), ask, written, moment, None);
             is_begun = true;
         }
         match self.open.back_mut().filter(|_| is_begun) {

@@ -1,6 +1,6 @@
 //! Whether the files of a program have space for a larger store.
 //!
-//! A program puts its store in the place of the lines that led to it, and needs space for that beside them. Where a store is too
+//! A program puts its store in the place of the entries that led to it, and needs space for that beside them. Where a store is too
 //! large, it never finds it, and the deletes of many small messages need more space than is left. So sends are refused before.
 
 use std::time::Instant;

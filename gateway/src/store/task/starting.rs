@@ -9,7 +9,7 @@ use crate::clock::Moment;
 use crate::errors::SqsError;
 use crate::frames;
 use crate::handles::Receipt;
-use crate::lines::{self, AskFields};
+use crate::lines::AskFields;
 use crate::queues::ask::{Ask, Cause, Outcome, StoreName, TableChange};
 use crate::queues::book;
 use crate::queues::{Queue, State};
@@ -38,21 +38,21 @@ impl Task {
                 },
                 (Some(queue), Some(Operation::Change(change))) => self.start_change(queue, change)?,
                 (Some(queue), Some(Operation::Say(entry))) => self.start_saying(queue, entry, 0)?,
-                (Some(queue), Some(Operation::Count)) => StartOutcome::Open(self.count(queue)?),
+                (Some(queue), Some(Operation::Count)) => StartOutcome::Open(self.count(queue)),
                 (Some(queue), Some(Operation::Move { target, copies })) => {
                     self.start_move(queue, target, copies, &mut sender)?
                 }
                 (Some(_), Some(Operation::Hold | Operation::HoldForMove | Operation::Release)) => {
                     StartOutcome::ready(Ok(Outcome::Done))
                 }
-                (_, Some(Operation::Moment)) => StartOutcome::Open(self.moment()?),
+                (_, Some(Operation::Moment)) => StartOutcome::Open(self.moment()),
                 _ => StartOutcome::Open(Entry::Ready(None)),
             };
             match started {
                 StartOutcome::Open(entry @ Entry::Ready(_)) if is_of_tables => {
                     // All that is started here came before this one request.
                     if !std::mem::replace(&mut has_asked, true) {
-                        let entry = self.moment()?;
+                        let entry = self.moment();
                         self.open.push_back(Open { entry, sender: None });
                     }
                     self.open.push_back(Open { entry, sender });
@@ -111,7 +111,7 @@ impl Task {
             }
         }
         let ask = stamped(ask, &queue, moment);
-        let written = self.encode(&AskFields::of(store, base, &ask))?;
+        let written = frames::ask(&AskFields::of(store, base, &ask))?;
         if !self.has_space(&ask, written.len() as u64, moment) {
             self.counters.count_lack_of_room();
             return ready(Err(refusal_for_room(true)));
@@ -144,7 +144,7 @@ impl Task {
         moment: Moment,
         weight: u64,
     ) -> Result<StartOutcome, Ended> {
-        match self.ask_free_client(queue, ask, written, moment, weight)? {
+        match self.ask_free_client(queue, ask, written, moment, weight) {
             started @ StartOutcome::Open(Entry::Ask(_)) => Ok(started),
             other => {
                 self.admission.answered(weight);
@@ -160,13 +160,9 @@ impl Task {
         written: Vec<u8>,
         moment: Moment,
         weight: u64,
-    ) -> Result<StartOutcome, Ended> {
-        let ready = |answer| Ok(StartOutcome::ready(answer));
-        if !self.clients.has(ask.reads_parts()) {
-            return Ok(StartOutcome::WaitsForAnswer(queue, ask.into()));
-        }
+    ) -> StartOutcome {
         let Some(client) = self.clients.take(ask.reads_parts()) else {
-            return ready(Err(SqsError::InternalFailure("No client is free.".into())));
+            return StartOutcome::WaitsForAnswer(queue, ask.into());
         };
         let number = self.next_number();
         self.open_visibility_changes += usize::from(matches!(ask, Ask::ChangeVisibility { .. }));
@@ -182,8 +178,8 @@ impl Task {
             is_done: false,
             original: None,
         };
-        self.write(&asked)?;
-        Ok(StartOutcome::Open(Entry::Ask(Box::new(asked))))
+        self.write(&asked);
+        StartOutcome::Open(Entry::Ask(Box::new(asked)))
     }
 
     /// Whether the same call sends its message with a delay and without, and one of both isn't answered yet. Takes time in
@@ -201,55 +197,56 @@ impl Task {
         dedup.call_key().is_some() && self.open.iter().any(is_same)
     }
 
-    pub(super) fn write(&mut self, asked: &OpenAsk) -> Result<(), Ended> {
+    pub(super) fn write(&mut self, asked: &OpenAsk) {
         let OpenAsk { moment, client, number, written, .. } = asked;
+        let out = &mut self.out.bytes;
         match &self.chain {
-            Some(chain) => chain.request(&mut self.out.bytes, *moment, frames::request(*client, *number, written)),
-            None => lines::append_request(&mut self.out.bytes, *moment, *client, *number, written)?,
+            Some(chain) => chain.request(out, *moment, frames::request(*client, *number, written)),
+            None => self.server.request(out, *moment, *number, |out| {
+                frames::put_request(out, *client, *number, written);
+            }),
         }
-        Ok(())
     }
 
-    pub(super) fn moment(&mut self) -> Result<Entry, Ended> {
+    pub(super) fn moment(&mut self) -> Entry {
         self.count_moment();
-        // In a chain answers may come twice, so that each has a number of its own.
-        let number = if self.chain.is_some() { self.next_number() } else { 0 };
+        let number = self.next_number();
         self.moment_at(self.clock.now(), number)
     }
 
-    pub(super) fn moment_at(&mut self, moment: Moment, number: u64) -> Result<Entry, Ended> {
+    pub(super) fn moment_at(&mut self, moment: Moment, number: u64) -> Entry {
+        let out = &mut self.out.bytes;
         match &self.chain {
-            Some(chain) => chain.request(&mut self.out.bytes, moment, frames::moment(number)),
-            None => lines::append_moment(&mut self.out.bytes, moment)?,
+            Some(chain) => chain.request(out, moment, frames::moment(number)),
+            None => self.server.request(out, moment, number, |out| frames::put_moment(out, number)),
         }
-        Ok(Entry::Moment { moment, number })
+        Entry::Moment { moment, number }
     }
 
-    fn count(&mut self, queue: Arc<Queue>) -> Result<Entry, Ended> {
-        let entry = self.moment()?;
+    fn count(&mut self, queue: Arc<Queue>) -> Entry {
+        let entry = self.moment();
         self.open.push_back(Open { entry, sender: None });
         let tag = self.next_number();
         // A server that acts is asked by another way than requests are: only behind the moment's answer.
         if self.chain.is_none() {
-            self.write_count(tag, &queue)?;
+            self.write_count(tag, &queue);
         }
-        Ok(Entry::Count { tag, queue, least: None })
+        Entry::Count { tag, queue, least: None }
     }
 
     /// Asks for something that changes nothing, to see whether the program answers it.
-    pub(super) fn probe(&mut self, queue: Arc<Queue>) -> Result<Entry, Ended> {
+    pub(super) fn probe(&mut self, queue: Arc<Queue>) -> Entry {
         let tag = self.next_number();
-        self.write_count(tag, &queue)?;
-        Ok(Entry::Probe { tag, queue })
+        self.write_count(tag, &queue);
+        Entry::Probe { tag, queue }
     }
 
-    pub(super) fn write_count(&mut self, tag: u64, queue: &Queue) -> Result<(), Ended> {
+    pub(super) fn write_count(&mut self, tag: u64, queue: &Queue) {
         let store = queue.state().entry.store;
         match &self.chain {
             Some(_) => chain::query(&mut self.out.bytes, frames::count(tag, store)),
-            None => lines::append_count(&mut self.out.bytes, tag, store)?,
+            None => self.server.query(&mut self.out.bytes, tag, |out| frames::put_count(out, tag, store)),
         }
-        Ok(())
     }
 
     /// Whether a change or a delete of this message isn't answered yet. Takes time in proportion to the open requests,
@@ -314,7 +311,7 @@ impl Task {
             return Ok(StartOutcome::ready(Err(SqsError::InvalidParameterValue(message.into()))));
         }
         let ask = Ask::Say { book, entry: Arc::new(entry), text };
-        let written = self.encode(&AskFields::of(StoreName::of_book(book), 0, &ask))?;
+        let written = frames::ask(&AskFields::of(StoreName::of_book(book), 0, &ask))?;
         self.ask_admitted(queue, ask, written, self.clock.now(), weight)
     }
 }

@@ -21,7 +21,7 @@ use super::room::adds;
 use super::{Ended, Task};
 use crate::errors::SqsError;
 use crate::frames::{self, Answer};
-use crate::lines::{AskFields, StoreReply};
+use crate::lines::StoreReply;
 
 /// Behind a refusal all is asked again after this time: there was no memory.
 const PAUSE: Duration = Duration::from_millis(50);
@@ -82,7 +82,7 @@ impl Chain {
 }
 
 /// Whether the moment is there. Then it is taken out.
-fn take_due(moment: &mut Option<Instant>, now: Instant) -> bool {
+pub(super) fn take_due(moment: &mut Option<Instant>, now: Instant) -> bool {
     let is_due = moment.is_some_and(|moment| moment <= now);
     if is_due {
         *moment = None;
@@ -90,7 +90,8 @@ fn take_due(moment: &mut Option<Instant>, now: Instant) -> bool {
     is_due
 }
 
-fn is_answer_to(answer: &Answer, entry: &Entry) -> bool {
+/// Whether it is the answer to that entry.
+pub(super) fn is_answer_to(answer: &Answer, entry: &Entry) -> bool {
     let (client, is_of_query) = match entry {
         Entry::Ask(asked) => (asked.client, false),
         Entry::Moment { .. } => (frames::COUNTER, false),
@@ -112,16 +113,8 @@ impl Task {
         self.last_number
     }
 
-    /// The bytes of an ask.
-    pub(super) fn encode(&self, fields: &AskFields<'_>) -> Result<Vec<u8>, Ended> {
-        match &self.chain {
-            Some(_) => Ok(frames::ask(fields)?),
-            None => Ok(crate::lines::ask(fields)?),
-        }
-    }
-
-    /// Whether nothing new is asked: the stream has ended, and what is open comes first in the next one.
-    pub(super) fn is_stopped(&self) -> bool {
+    /// Whether nothing new is asked of the chain: the stream has ended, and what is open comes first in the next one.
+    pub(super) fn is_chain_stopped(&self) -> bool {
         self.chain.as_ref().is_some_and(|chain| chain.again.is_some())
     }
 
@@ -156,8 +149,11 @@ impl Task {
                 Ok(())
             }
             FromNode::Answer { message } => self.take_answer(frames::read_answer(message)?),
-            FromNode::Acts if self.is_stopped() => Ok(()),
-            FromNode::Acts => self.ask_open_again(),
+            FromNode::Acts if self.is_chain_stopped() => Ok(()),
+            FromNode::Acts => {
+                self.ask_open_again();
+                Ok(())
+            }
             FromNode::Refused { stream, code, request } => self.stream_refused(stream, code, request),
             FromNode::Room { memory, is_disk_short } => {
                 self.admission.bound_by_chain(memory, is_disk_short);
@@ -173,7 +169,7 @@ impl Task {
         let Some(place) = self.open.iter().position(|open| is_answer_to(&answer, &open.entry)) else { return Ok(()) };
         let Answer { client, number, length, reply, .. } = answer;
         match &self.open[place].entry {
-            Entry::Moment { .. } => self.ask_count_behind(place, length)?,
+            Entry::Moment { .. } => self.ask_count_behind(place, length),
             // The server was detected, and hadn't heard of that.
             Entry::Count { least, .. } if least.map_or(true, |least| length < least) => return Ok(()),
             _ => {}
@@ -205,17 +201,17 @@ impl Task {
     }
 
     /// The request before a count was answered: the count is asked of a server that has it.
-    fn ask_count_behind(&mut self, place: usize, length: u64) -> Result<(), Ended> {
+    fn ask_count_behind(&mut self, place: usize, length: u64) {
         let Some(Open { entry: Entry::Count { tag, queue, least: least @ None }, .. }) = self.open.get_mut(place + 1)
         else {
-            return Ok(());
+            return;
         };
         *least = Some(length);
         let (tag, queue) = (*tag, queue.clone());
         if let Some(chain) = &mut self.chain {
             chain.queries.get_or_insert_with(|| Instant::now() + QUERY);
         }
-        self.write_count(tag, &queue)
+        self.write_count(tag, &queue);
     }
 
     /// The stream has ended: from some request on nothing was taken.
@@ -252,22 +248,20 @@ impl Task {
         true
     }
 
-    /// Asks again what is to be asked at this moment.
-    pub(super) fn ask_what_is_due(&mut self) -> Result<(), Ended> {
+    /// Asks the chain again what is to be asked at this moment.
+    pub(super) fn ask_chain_what_is_due(&mut self) {
         let now = Instant::now();
-        let Some(chain) = &mut self.chain else { return Ok(()) };
+        let Some(chain) = &mut self.chain else { return };
         if take_due(&mut chain.again, now) {
-            return self.ask_open_again();
+            self.ask_open_again();
+        } else if take_due(&mut chain.queries, now) {
+            self.ask_queries_again();
         }
-        if take_due(&mut chain.queries, now) {
-            self.ask_queries_again()?;
-        }
-        Ok(())
     }
 
     /// Asks all that is open once more, in its order. What has its answer needs none. The next stream takes the place of what the
     /// node hasn't given the server yet.
-    fn ask_open_again(&mut self) -> Result<(), Ended> {
+    fn ask_open_again(&mut self) {
         if let Some(chain) = &mut self.chain {
             chain.stream += 1;
         }
@@ -277,15 +271,14 @@ impl Task {
                 entry if self.has_answer(entry) => {}
                 Entry::Ask(asked) => {
                     asked.ends += 1;
-                    self.write(asked)?;
+                    self.write(asked);
                 }
-                Entry::Moment { moment, number } => drop(self.moment_at(*moment, *number)?),
-                Entry::Count { tag, queue, least: Some(_) } => self.write_count(*tag, queue)?,
+                Entry::Moment { moment, number } => drop(self.moment_at(*moment, *number)),
+                Entry::Count { tag, queue, least: Some(_) } => self.write_count(*tag, queue),
                 Entry::Count { .. } | Entry::Probe { .. } | Entry::Ready(_) => {}
             }
         }
         self.open = open;
-        Ok(())
     }
 
     fn has_answer(&self, entry: &Entry) -> bool {
@@ -294,18 +287,17 @@ impl Task {
     }
 
     /// Asks for the counts again whose answers didn't come.
-    fn ask_queries_again(&mut self) -> Result<(), Ended> {
+    fn ask_queries_again(&mut self) {
         let waits = |open: &Open| match &open.entry {
             Entry::Count { tag, queue, least: Some(_) } if !self.has_answer(&open.entry) => Some((*tag, queue.clone())),
             _ => None,
         };
         let waiting: Vec<_> = self.open.iter().filter_map(waits).collect();
         for (tag, queue) in &waiting {
-            self.write_count(*tag, queue)?;
+            self.write_count(*tag, queue);
         }
         if let Some(chain) = self.chain.as_mut().filter(|_| !waiting.is_empty()) {
             chain.queries = Some(Instant::now() + QUERY);
         }
-        Ok(())
     }
 }

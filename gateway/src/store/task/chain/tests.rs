@@ -96,7 +96,7 @@ fn chain() -> (Store, Arc<Queue>, Node) {
         node: Some(NodeStart { server: SERVER, paused: None, incoming: BytesMut::new() }),
         queues,
         clock: Arc::new(Clock::new()),
-        kept: Some(Kept { files: Vec::new(), begun: vec![(0, 3 * STEP + 70)] }),
+        kept: Some(Kept { files: Vec::new(), begun: vec![3 * STEP + 70] }),
         memory: None,
     });
     let (reading, writing) = node.into_split();
