@@ -10,11 +10,13 @@ use clap_complete::Shell;
 use hobbychair_cluster::command_line as cluster;
 
 use crate::config::{LogFormat, LogLevel, LogSettings, Misuse, Options};
+use crate::draw::{draw, Drawing};
 use crate::front;
 use crate::history;
 use crate::inspect;
 use crate::log;
 use crate::serve::{self, serve};
+use crate::shell::{self, Shell as ChainShell};
 
 /// The variable that names the program cq.
 const PROGRAM: &str = "HOBBYCHAIR_CQ";
@@ -48,6 +50,10 @@ enum Command {
         /// The history, a line of JSON for each request [default: standard input]
         file: Option<PathBuf>,
     },
+    /// Draw a run of a script: who sends which message to whom, and when it is taken
+    Draw(Drawing),
+    /// Try a chain with words: queues, crashes, joins, message by message
+    Shell(ChainShell),
     /// Run a server of a chain on several machines
     Node(Box<cluster::Node>),
     /// Run a candidate for the master of such a chain
@@ -121,6 +127,8 @@ fn run(command: Command) -> Result<()> {
             out.flush()?;
             anyhow::ensure!(!told.is_refuted, "the rules don't allow this history");
         }
+        Command::Draw(asked) => draw(&program(asked.cq.clone())?, &asked, io::stdin().lock(), &mut out)?,
+        Command::Shell(asked) => shell::run(&program(asked.cq.clone())?, &asked)?,
         Command::Node(node) => {
             begin_log(plain_log())?;
             let program = program(node.cq.clone())?;
