@@ -1,5 +1,5 @@
 //! Entries that are kept before anything rests on them.
-ghost use Rattle.std.specs.Prelude.{◌≡◌, ◌⊎◌, ◌≤◌, ◌++◌, [], ◌∷◌, ℕ, List, true, IfOk, IsTrue, OnErr, OnOk, IsErrOf};
+ghost use Rattle.std.specs.Prelude.{◌≡◌, ◌⊎◌, ◌≤◌, ◌++◌, [], ◌∷◌, ℕ, List, true, Ok, IfOk, IsTrue, OnErr, OnOk, IsErrOf};
 ghost use Rattle.cq_base.specs.declared.ask.Entry as base;
 ghost use Rattle.cq_disk.specs.Device.{LeavesOnly};
 ghost use Rattle.cq_journal.specs.Changes.{adds};
@@ -8,14 +8,17 @@ ghost use Rattle.cq_journal.specs.Journal.{IsJournal, journal_half, journal_reco
 ghost use Rattle.cq_records.specs.declared.fault.LogFault.TheVariants.{Full};
 ghost use Rattle.cq_kept_entries.specs.Kept.{BytesStandFor};
 ghost use Rattle.cq_kept_entries.specs.Pieces.{ArePiecesOf};
+ghost use Rattle.cq_wire.specs.Layout.{entry, whole};
+ghost use Rattle.cq_wire.specs.Limits.{IsEntry};
+ghost use Rattle.cq_wire.specs.Reading.{entry_at, whole_at};
 
-use cq_base::{Entry, NoMemory};
+use cq_base::{Moment, NoMemory, Request};
 use cq_disk::Device;
 use cq_journal::Journal;
-use cq_kept_base::{Schedule, batch_of, piece_text};
+use cq_kept_base::{Schedule, batch_of, stuff};
 use cq_records::LogFault;
 use cq_wire::laws::what_is_written_is_read;
-use cq_wire::{entry_fits, write_entry};
+use cq_wire::{VERSION, Writer, put_request, request_fits};
 use std::alloc::Global;
 
 /// A journal of entries. Those that are added wait until they are kept, all by one record and one sync. What is kept stands for a list of
@@ -30,18 +33,48 @@ pub struct KeptEntries<D: Device> {
     pub(crate) schedule: Schedule,
 }
 
-/// The piece of an entry.
-fn piece_of(alloc: Global, entry: &Entry) -> Result<Vec<u8>, NoMemory>
-    ensures { IfOk result (λ piece. ArePiecesOf piece.items (entry.now ∷ [])) }
+/// Most entries have fewer bytes than that, and so have their pieces.
+const ENTRY_ROOM: usize = 1_000;
+
+/// The entry of this moment and request has bytes.
+fn entry_fits(moment: Moment, request: &Request)
+    ensures { IsEntry (record { moment = moment; request = request.now }) }
 {
-    let mut bytes = Vec::new(alloc);
+    let _number = moment.get();
+    request_fits(request);
+}
+
+/// Writes the entry of this moment and request.
+#[tactic(auto, unfolding(cq_wire::specs::Layout::whole, cq_wire::specs::Layout::entry))]
+fn put_entry(out: &mut Writer, moment: Moment, request: &Request) -> Result<(), NoMemory>
+    ensures ok { OnOk result (out.new.value ≡ out.old.value ++ whole entry (record { moment = moment; request = request.now })) }
+    ensures before { out.new.before ≡ out.old.before }
+{
+    out.put(&[VERSION])?;
+    out.put_u64(moment.get())?;
+    put_request(out, request)
+}
+
+/// The bytes of the entry of this moment and request.
+fn entry_bytes(alloc: Global, moment: Moment, request: &Request) -> Result<Vec<u8>, NoMemory>
+    ensures { IfOk result (λ bytes. whole_at entry_at bytes.items ≡ Ok (record { moment = moment; request = request.now })) }
+{
+    let mut out = Writer::after(Vec::with_capacity(alloc, ENTRY_ROOM)?);
     what_is_written_is_read();
-    entry_fits(entry);
-    write_entry(&mut bytes, entry)?;
-    match piece_text(alloc, &[], &bytes) {
-        Ok(piece) => Ok(piece),
-        Err(_) => Err(NoMemory),
-    }
+    entry_fits(moment, request);
+    put_entry(&mut out, moment, request)?;
+    Ok(out.whole())
+}
+
+/// The piece of the entry of this moment and request.
+fn piece_of(alloc: Global, moment: Moment, request: &Request) -> Result<Vec<u8>, NoMemory>
+    ensures { IfOk result (λ piece. ArePiecesOf piece.items (record { moment = moment; request = request.now } ∷ [])) }
+{
+    let bytes = entry_bytes(alloc, moment, request)?;
+    let mut piece = Vec::with_capacity(alloc, ENTRY_ROOM)?;
+    stuff(&mut piece, &bytes)?;
+    piece.push(b'\n')?;
+    Ok(piece)
 }
 
 /// Puts a record behind all others, on the medium.
@@ -66,14 +99,15 @@ pub(crate) fn append_record<D: Device>(
 impl<D: Device> KeptEntries<D> {
     ghost use Rattle.cq_kept_entries.specs.Kept.{HasAdded, IsKept, StandsFor, added_records, added_text, entries_device, entries_half, entries_journal, entries_len, kept_records};
 
-    /// Adds an entry behind those that were added and aren't kept yet. After `NoMemory` nothing has changed. O(bytes of the entry).
-    pub fn add(&mut self, entry: &Entry) -> Result<(), NoMemory>
+    /// Adds the entry of this moment and request behind those that were added and aren't kept yet. After `NoMemory` nothing has changed.
+    /// O(bytes of the entry).
+    pub fn add(&mut self, moment: Moment, request: &Request) -> Result<(), NoMemory>
         ensures kept { IsKept self.old → IsKept self.new }
         ensures journal { entries_journal self.new ≡ entries_journal self.old }
-        ensures added { (more : List base.Entry) → HasAdded self.old more → OnOk result (HasAdded self.new (more ++ entry.now ∷ [])) }
+        ensures added { (more : List base.Entry) → HasAdded self.old more → OnOk result (HasAdded self.new (more ++ record { moment = moment; request = request.now } ∷ [])) }
         ensures err { OnErr result (added_text self.new ≡ added_text self.old) }
     {
-        let piece = piece_of(self.alloc, entry)?;
+        let piece = piece_of(self.alloc, moment, request)?;
         self.text.extend_from_slice(&piece)?;
         Ok(())
     }

@@ -146,7 +146,8 @@ fn add_all<D: Device>(
     ensures { OnOk result (IsKept kept.new) }
 {
     for number in first..end {
-        kept.add(&entry_of(alloc, number)?)?;
+        let entry = entry_of(alloc, number)?;
+        kept.add(entry.moment, &entry.request)?;
     }
     Ok(())
 }
@@ -188,7 +189,8 @@ fn entries_are_kept(rt: HostRuntime) -> Result<(), Fail> {
     let mut kept = KeptEntries::create(alloc, device, HALF, LEN)?;
     keep(alloc, &mut kept, 1, 3)?;
     keep(alloc, &mut kept, 4, 4)?;
-    kept.add(&entry_of(alloc, 5)?)?;
+    let entry = entry_of(alloc, 5)?;
+    kept.add(entry.moment, &entry.request)?;
     let bytes = kept.into_journal().into_device().bytes().to_vec(alloc)?;
 
     let (mut again, mut store) = open(alloc, bytes)?;
@@ -251,7 +253,7 @@ fn entries_fill_no_journal(rt: HostRuntime) -> Result<(), Fail> {
         let mut entry = entry_of(alloc, 3)?;
         entry.request.number = number;
         kept.rewrite_if_due(&store, 100)?;
-        kept.add(&entry)?;
+        kept.add(entry.moment, &entry.request)?;
         kept.commit()?;
         answered(alloc, &mut store, &entry)?;
     }

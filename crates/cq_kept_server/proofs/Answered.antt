@@ -1,6 +1,6 @@
 -- What is answered, and which entry comes of it.
 use Rattle.std.proofs.Common.{◌≡◌, ◌⊎◌, ◌<◌, ◌≤◌, ◌+◌, inl, inr, ℕ, List, [], ◌∷◌, ◌++◌, length, true, false, Option, None, Some, Result, Ok, Err, refl, sym, ◌∙◌, ap, subst, arith, append_assoc, length-append}
-use Rattle.std.specs.Prelude.{OnErr}
+use Rattle.std.specs.Prelude.{OnErr, OnOk}
 use Rattle.std.proofs.lemmas.Bool.{false≢true}
 use Rattle.std.proofs.lemmas.List.Sums.{fold-append}
 use Rattle.cq_base.specs.declared.ask.Entry.{Entry}
@@ -61,10 +61,10 @@ pub on_err : {A E : Type 0} {P : Type 0} (r : Result A E) → P → OnErr r P
 on_err (Ok x) p = tt
 on_err (Err e) p = p
 
--- what was told into a buffer that had nothing stands behind the rest
-pub stands-behind : (old slice told before text end new : List ℕ) → new ≡ old ++ slice → slice ≡ told → before ≡ [] → told ++ end ≡ before ++ text → new ++ end ≡ old ++ text
-stands-behind old slice told before text end new same value none whole =
-    ap (λ l. l ++ end) (same ∙ ap (λ l. old ++ l) value) ∙ append_assoc old told end ∙ ap (λ l. old ++ l) (whole ∙ ap (λ l. l ++ text) none)
+-- where it went well, what was added was
+pub on_ok_added : {A E : Type 0} {P Q : List Entry → Type 0} {T : Type 0} (r : Result A E) → ((more : List Entry) → P more → OnOk r (Q more)) → (((more : List Entry) → P more → Q more) → T) → OnOk r T
+on_ok_added (Ok x) added told = told added
+on_ok_added (Err e) added told = tt
 
 module _ {D : Type 0} {g : Ghosts D} where
   -- the process answers, and no entry comes

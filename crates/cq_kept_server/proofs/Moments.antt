@@ -20,10 +20,6 @@ use Rattle.cq_kept_server.specs.Servers.{Has, HasEntries, State, device_of, half
 pub prefix_self : {X : Type 0} (a : List X) → IsPrefix a a
 prefix_self a = ([], sym (append-nil a))
 
--- nothing was added
-pub prefix_same : {X : Type 0} (a b : List X) → b ≡ a → IsPrefix a b
-prefix_same a b same = ([], same ∙ sym (append-nil a))
-
 pub prefix_more : {X : Type 0} (a b : List X) → IsPrefix a (a ++ b)
 prefix_more a b = (b, refl)
 

@@ -13,11 +13,11 @@ ghost use Rattle.cq_server_copies.specs.Saving as saving;
 ghost use Rattle.cq_wire.specs.Reading.{whole_at};
 
 use crate::KeptServer;
-use cq_base::{Entry, Moment, NoMemory, Party, Request};
+use cq_base::{Moment, Party, Request};
 use cq_disk::Device;
 use cq_frame_loop::Unanswered;
 use cq_frames::{Command, NO_MEMORY, NOT_HERE, STREAM_ENDED, read_command, stream_of};
-use cq_kept_entries::{EntryClass, KeptEntries, class_of};
+use cq_kept_entries::{EntryClass, class_of};
 use cq_process_frames::tell_refused;
 use cq_records::{LogFault, TEXT_LIMIT};
 use cq_wire::ReadFault;
@@ -58,20 +58,6 @@ fn refuse(end: &mut Vec<u8>, code: u32)
     ensures capacity { vec_capacity end.old ≤ vec_capacity end.new }
 {
     tell_refused(end, code);
-}
-
-/// Adds the entry of this request and moment to those that are to be kept.
-fn add_copy<D: Device>(
-    kept: &mut KeptEntries<D>,
-    moment: Moment,
-    request: &Request,
-) -> Result<(), NoMemory>
-    ensures journal { entries_journal kept.new ≡ entries_journal kept.old }
-    ensures kept { IsKept kept.old → IsKept kept.new }
-    ensures added { (more : List rust_entry.Entry) → HasAdded kept.old more → OnOk result (HasAdded kept.new (more ++ record { moment = moment; request = request.now } ∷ [])) }
-{
-    let request = request.try_copy()?;
-    kept.add(&Entry { moment, request })
 }
 
 impl<D: Device> KeptServer<D> {
@@ -156,7 +142,7 @@ impl<D: Device> KeptServer<D> {
                 stream,
                 clock,
                 request,
-            } => self.answer_arrival(bytes, *stream, *clock, request, out, end),
+            } => self.answer_arrival(bytes, command, *stream, *clock, request, out, end),
             _ => self.answer_plain(Some(bytes), out, end),
         }
     }
@@ -180,10 +166,11 @@ impl<D: Device> KeptServer<D> {
         self.pass_on(frame, out, end)
     }
 
-    /// Answers an arrival of that stream, which these bytes are.
+    /// Answers a command that is an arrival of that stream, which these bytes are.
     fn answer_arrival(
         &mut self,
         bytes: &[u8],
+        command: &Command,
         stream: u64,
         clock: Moment,
         request: &Request,
@@ -191,6 +178,7 @@ impl<D: Device> KeptServer<D> {
         end: &mut Vec<u8>,
     ) -> Result<(), Unanswered>
         requires ready { IsReady self.old }
+        requires read { whole_at command_at bytes.now ≡ Ok command.now }
         requires arrival { IsArrival bytes.now stream clock request.now }
         requires empty { vec_len end.old ≡ 0 }
         requires room { 64 ≤ vec_capacity end.old }
@@ -211,7 +199,7 @@ impl<D: Device> KeptServer<D> {
             refuse(end, NO_ROOM);
             return Ok(());
         }
-        self.take_arrival(bytes, stream, clock, request, out, end)
+        self.take_arrival(bytes, command, stream, clock, request, out, end)
     }
 
     /// Notes that there was no room for an entry of this class, of at most so many bytes.
@@ -230,6 +218,7 @@ impl<D: Device> KeptServer<D> {
     fn take_arrival(
         &mut self,
         bytes: &[u8],
+        command: &Command,
         stream: u64,
         clock: Moment,
         request: &Request,
@@ -237,6 +226,7 @@ impl<D: Device> KeptServer<D> {
         end: &mut Vec<u8>,
     ) -> Result<(), Unanswered>
         requires ready { IsReady self.old }
+        requires read { whole_at command_at bytes.now ≡ Ok command.now }
         requires arrival { IsArrival bytes.now stream clock request.now }
         requires has_room { HasRoom self.old.kept (class_of request.now.ask) (room_for bytes.now) }
         requires empty { vec_len end.old ≡ 0 }
@@ -247,31 +237,12 @@ impl<D: Device> KeptServer<D> {
         ensures capacity { vec_capacity end.old ≤ vec_capacity end.new }
     {
         let before = self.process.core().count();
-        let mut told = Vec::new(self.alloc);
-        self.pass_on(Some(bytes), &mut told, end)?;
+        self.pass_command(bytes, command, out, end)?;
         let standing = self.standing();
         if standing.count <= before {
-            return self.hand_on(told.as_slice(), out);
+            return Ok(());
         }
-        self.add(standing.last, request)?;
-        self.hand_on(told.as_slice(), out)
-    }
-
-    /// What was told stands behind the rest.
-    fn hand_on(&mut self, told: &[u8], out: &mut Vec<u8>) -> Result<(), Unanswered>
-        ensures process { self.new.process ≡ self.old.process }
-        ensures streams { self.new.streams ≡ self.old.streams }
-        ensures kept { self.new.kept ≡ self.old.kept }
-        ensures ok { OnOk result (out.new.items ≡ out.old.items ++ told.now) }
-        ensures err { OnErr result (out.new.items ≡ out.old.items) }
-    {
-        match out.extend_from_slice(told) {
-            Ok(()) => Ok(()),
-            Err(_) => {
-                self.fault = Some(LogFault::NoMemory);
-                Err(Unanswered)
-            }
-        }
+        self.add(standing.last, request)
     }
 
     /// Adds the entry of this request and moment.
@@ -282,7 +253,7 @@ impl<D: Device> KeptServer<D> {
         ensures kept { IsReady self.old → IsReady self.new }
         ensures added { (more : List rust_entry.Entry) → HasAdded self.old.kept more → OnOk result (HasAdded self.new.kept (more ++ record { moment = moment; request = request.now } ∷ [])) }
     {
-        match add_copy(&mut self.kept, moment, request) {
+        match self.kept.add(moment, request) {
             Ok(()) => Ok(()),
             Err(_) => {
                 self.fault = Some(LogFault::NoMemory);
@@ -307,6 +278,29 @@ impl<D: Device> KeptServer<D> {
         ensures capacity { vec_capacity end.old ≤ vec_capacity end.new }
     {
         match self.process.answer_frame(frame, out, end) {
+            Ok(()) => Ok(()),
+            Err(_) => Err(Unanswered),
+        }
+    }
+
+    /// The process answers a command that was read of these bytes.
+    fn pass_command(
+        &mut self,
+        bytes: &[u8],
+        command: &Command,
+        out: &mut Vec<u8>,
+        end: &mut Vec<u8>,
+    ) -> Result<(), Unanswered>
+        requires read { whole_at command_at bytes.now ≡ Ok command.now }
+        requires empty { vec_len end.old ≡ 0 }
+        requires room { 64 ≤ vec_capacity end.old }
+        ensures tells { OnOk result (saving.TellsAnswer (Some bytes.now) self.old.process self.new.process out.old.items out.new.items end.new.items) }
+        ensures front { IsPrefix out.old.items out.new.items }
+        ensures kept { self.new.kept ≡ self.old.kept }
+        ensures streams { self.new.streams ≡ self.old.streams }
+        ensures capacity { vec_capacity end.old ≤ vec_capacity end.new }
+    {
+        match self.process.answer_command(bytes, command, out, end) {
             Ok(()) => Ok(()),
             Err(_) => Err(Unanswered),
         }

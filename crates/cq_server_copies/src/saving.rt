@@ -1,13 +1,15 @@
 //! A process that keeps a server, and tells copies of its store.
-ghost use Rattle.std.specs.Prelude.{◌≡◌, ◌≤◌, ◌++◌, List, ℕ, [], None, Some, true, false, option_map, vec_capacity, vec_len, IfOk, OnErr, OnOk};
+ghost use Rattle.std.specs.Prelude.{◌≡◌, ◌≤◌, ◌++◌, List, ℕ, [], None, Ok, Some, true, false, option_map, vec_capacity, vec_len, IfOk, OnErr, OnOk};
 ghost use Rattle.cq_base.specs.Relations.{IsPrefix};
+ghost use Rattle.cq_frames.specs.Reading.{command_at};
 ghost use Rattle.cq_server_copies.specs.Saving.{Begins, SavesChunk, TellsAnswer, TellsSave};
+ghost use Rattle.cq_wire.specs.Reading.{whole_at};
 
 use crate::copy::StoreCopy;
 use crate::tell::{Unsaved, tell_saved};
 use cq_base::NoMemory;
 use cq_chain::Server;
-use cq_frames::{NO_MEMORY, is_save};
+use cq_frames::{Command, NO_MEMORY, is_save};
 use cq_process::standing;
 use cq_process_frames::{TooLong, tell_done, tell_refused};
 use cq_server_process::ServerProcess;
@@ -80,6 +82,7 @@ impl SavingProcess {
         requires empty { vec_len end.old ≡ 0 }
         requires room { 64 ≤ vec_capacity end.old }
         ensures tells { OnOk result (TellsSave self.old self.new out.old.items out.new.items end.new.items) }
+        ensures front { OnOk result (IsPrefix out.old.items out.new.items) }
         ensures err { OnErr result (IsPrefix out.old.items out.new.items) }
         ensures capacity { vec_capacity end.old ≤ vec_capacity end.new }
     {
@@ -143,5 +146,27 @@ impl SavingProcess {
             Some(bytes) => self.answer_bytes(bytes, out, end),
             None => self.process.answer_frame(None, out, end),
         }
+    }
+
+    /// Answers a command that was read of these bytes, as `answer_frame` answers the bytes.
+    pub fn answer_command(
+        &mut self,
+        bytes: &[u8],
+        command: &Command,
+        out: &mut Vec<u8>,
+        end: &mut Vec<u8>,
+    ) -> Result<(), TooLong>
+        requires read { whole_at command_at bytes.now ≡ Ok command.now }
+        requires empty { vec_len end.old ≡ 0 }
+        requires room { 64 ≤ vec_capacity end.old }
+        ensures tells { OnOk result (TellsAnswer (Some bytes.now) self.old self.new out.old.items out.new.items end.new.items) }
+        ensures front { OnOk result (IsPrefix out.old.items out.new.items) }
+        ensures err { OnErr result (IsPrefix out.old.items out.new.items) }
+        ensures capacity { vec_capacity end.old ≤ vec_capacity end.new }
+    {
+        if is_save(bytes) {
+            return self.save(out, end);
+        }
+        self.process.answer_command(bytes, command, out, end)
     }
 }

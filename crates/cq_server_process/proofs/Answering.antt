@@ -1,8 +1,9 @@
 -- A command with the turns behind it, and the end of its answer.
-use Rattle.std.proofs.Common.{◌≡◌, ℕ, ◌∙◌, ap, refl, subst, Bool, true, false, if◌then◌else◌, List, [], ◌∷◌, ◌++◌, Option, inl, inr, Result, Ok, Err}
+use Rattle.std.proofs.Common.{◌≡◌, ℕ, ◌∙◌, ap, append-nil, refl, subst, sym, Bool, true, false, if◌then◌else◌, List, [], ◌∷◌, ◌++◌, Option, inl, inr, Result, Ok, Err}
 use Rattle.std.specs.Prelude.{OnOk, Some}
 use Rattle.std.specs.Result.{is_err}
 use Rattle.cq_base.specs.declared.party.Party.{Party}
+use Rattle.cq_base.specs.Relations.{IsPrefix}
 use Rattle.cq_frames.specs.declared.command.Command.{Command}
 use Rattle.cq_frames.specs.declared.response.Response.TheVariants as responses
 use Rattle.cq_frames.specs.declared.response.TheConstants.{STREAM_ENDED}
@@ -34,6 +35,11 @@ goes-told command p mid q happened before first old m new is tells rounds incomi
         },
       ),
     )
+
+-- what is told comes behind the rest
+pub told-front : (command : Command) (p q : State) (happened : Result (Option Party) ℕ) (old new : List ℕ) → TellsCommand command p q happened old new → IsPrefix old new
+told-front command p q (Ok first) old new h = (frames h.0, h.1.0)
+told-front command p q (Err code) old new h = ([], h.0 ∙ sym (append-nil old))
 
 pub ended-told : (command : Command) (p q : State) (happened : Result (Option Party) ℕ) (old mid end : List ℕ) → TellsCommand command p q happened old mid → TellsEnd q.core happened end → TellsBy (is_err happened) command p q old mid end
 ended-told command p q (Ok first) old mid end h k = (

@@ -1,10 +1,12 @@
 //! What is told of a frame.
-ghost use Rattle.std.specs.Prelude.{◌≡◌, ◌+◌, ◌≤◌, ◌++◌, [], ◌∷◌, Some, option_map, IfOk, OnErr, OnOk, vec_capacity, vec_len};
+ghost use Rattle.std.specs.Prelude.{◌≡◌, ◌+◌, ◌≤◌, ◌++◌, [], ◌∷◌, Ok, Some, option_map, IfOk, OnErr, OnOk, vec_capacity, vec_len};
 ghost use Rattle.cq_base.specs.Relations.{IsPrefix};
+ghost use Rattle.cq_frames.specs.Reading.{command_at};
 ghost use Rattle.cq_frames.specs.declared.response.Response.TheVariants as responses;
 ghost use Rattle.cq_frames.specs.declared.response.TheConstants.{STREAM_ENDED};
 ghost use Rattle.cq_server_process.specs.Answers.{TellsAnswer, TellsBy, TellsCommand, TellsEnd, TellsOfCommand, process, state, unread_as, waiting};
 ghost use Rattle.cq_server_process.specs.Turns.{frames};
+ghost use Rattle.cq_wire.specs.Reading.{whole_at};
 
 use crate::commands::{Happened, happen};
 use crate::streams::Streams;
@@ -78,6 +80,7 @@ fn answer_in_time(
     requires empty { vec_len end.old ≡ 0 }
     requires room { 64 ≤ vec_capacity end.old }
     ensures tells { IfOk result (λ is_refused. TellsBy is_refused command.now (state links.old core.old) (state links.new core.new) out.old.items out.new.items end.new.items) }
+    ensures front { OnOk result (IsPrefix out.old.items out.new.items) }
     ensures err { OnErr result (IsPrefix out.old.items out.new.items) }
     ensures capacity { vec_capacity end.old ≤ vec_capacity end.new }
 {
@@ -113,6 +116,7 @@ fn answer_command(
     requires empty { vec_len end.old ≡ 0 }
     requires room { 64 ≤ vec_capacity end.old }
     ensures tells { OnOk result (TellsOfCommand command.now (process links.old core.old streams.old.ended) (process links.new core.new streams.new.ended) out.old.items out.new.items end.new.items) }
+    ensures front { OnOk result (IsPrefix out.old.items out.new.items) }
     ensures err { OnErr result (IsPrefix out.old.items out.new.items) }
     ensures capacity { vec_capacity end.old ≤ vec_capacity end.new }
 {
@@ -128,6 +132,27 @@ fn answer_command(
         Ok(false) => Ok(()),
         Err(fault) => Err(fault),
     }
+}
+
+/// Answers a command that was read of these bytes.
+pub fn answer_read(
+    links: &mut Links,
+    core: &mut Server,
+    streams: &mut Streams,
+    _bytes: &[u8],
+    command: &Command,
+    out: &mut Vec<u8>,
+    end: &mut Vec<u8>,
+) -> Result<(), TooLong>
+    requires read { whole_at command_at _bytes.now ≡ Ok command.now }
+    requires empty { vec_len end.old ≡ 0 }
+    requires room { 64 ≤ vec_capacity end.old }
+    ensures tells { OnOk result (TellsAnswer (Some _bytes.now) (process links.old core.old streams.old.ended) (process links.new core.new streams.new.ended) out.old.items out.new.items end.new.items) }
+    ensures front { OnOk result (IsPrefix out.old.items out.new.items) }
+    ensures err { OnErr result (IsPrefix out.old.items out.new.items) }
+    ensures capacity { vec_capacity end.old ≤ vec_capacity end.new }
+{
+    answer_command(links, core, streams, command, out, end)
 }
 
 /// Tells that bytes are those of no command, or that there was no memory to read them.
@@ -161,7 +186,7 @@ fn answer_bytes(
     ensures capacity { vec_capacity end.old ≤ vec_capacity end.new }
 {
     match read_command(alloc, bytes) {
-        Ok(command) => answer_command(links, core, streams, &command, out, end),
+        Ok(command) => answer_read(links, core, streams, bytes, &command, out, end),
         Err(fault) => {
             streams.end(stream_of(bytes));
             tell_fault(end, &fault);

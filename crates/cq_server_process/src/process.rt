@@ -1,16 +1,19 @@
 //! A process that keeps one server of a chain.
-ghost use Rattle.std.specs.Prelude.{◌≡◌, ◌≤◌, List, option_map, vec_capacity, vec_len, IfOk, OnErr, OnOk};
+ghost use Rattle.std.specs.Prelude.{◌≡◌, ◌≤◌, List, Ok, Some, option_map, vec_capacity, vec_len, IfOk, OnErr, OnOk};
 ghost use Rattle.cq_base.specs.declared.ask.Entry as rust_entry;
 ghost use Rattle.cq_base.specs.Relations.{IsPrefix};
 ghost use Rattle.cq_chain.specs.Servers.{alone, first_member, joining};
+ghost use Rattle.cq_frames.specs.Reading.{command_at};
 ghost use Rattle.cq_server_process.specs.Answers.{IsNewProcess, TellsAnswer};
 ghost use Rattle.cq_server_process.specs.Processes.{process_of};
 ghost use Rattle.cq_store.specs.Stands as stores;
+ghost use Rattle.cq_wire.specs.Reading.{whole_at};
 
-use crate::answer::answer;
+use crate::answer::{answer, answer_read};
 use crate::streams::Streams;
 use cq_base::{ChainSize, NoMemory, ServerId};
 use cq_chain::Server;
+use cq_frames::Command;
 use cq_process::Links;
 use cq_process_frames::TooLong;
 use cq_store::Store;
@@ -96,6 +99,33 @@ impl ServerProcess {
             &mut self.core,
             &mut self.streams,
             frame,
+            out,
+            end,
+        )
+    }
+
+    /// Answers a command that was read of these bytes, as `answer_frame` answers the bytes.
+    pub fn answer_command(
+        &mut self,
+        bytes: &[u8],
+        command: &Command,
+        out: &mut Vec<u8>,
+        end: &mut Vec<u8>,
+    ) -> Result<(), TooLong>
+        requires read { whole_at command_at bytes.now ≡ Ok command.now }
+        requires empty { vec_len end.old ≡ 0 }
+        requires room { 64 ≤ vec_capacity end.old }
+        ensures tells { OnOk result (TellsAnswer (Some bytes.now) (process_of self.old) (process_of self.new) out.old.items out.new.items end.new.items) }
+        ensures front { OnOk result (IsPrefix out.old.items out.new.items) }
+        ensures err { OnErr result (IsPrefix out.old.items out.new.items) }
+        ensures capacity { vec_capacity end.old ≤ vec_capacity end.new }
+    {
+        answer_read(
+            &mut self.links,
+            &mut self.core,
+            &mut self.streams,
+            bytes,
+            command,
             out,
             end,
         )

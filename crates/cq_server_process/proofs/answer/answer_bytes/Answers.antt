@@ -1,8 +1,7 @@
--- The command is answered, or the fault is told.
+-- The fault is told.
 use Rattle.std.proofs.Common.{◌++◌, ◌∙◌, ap, refl, inl}
 use Rattle.cq_server_process.specs.Answers.{ended_with, process, unread_as}
 use Rattle.cq_server_process.specs.Turns.{frames}
-use Rattle.cq_server_process.proofs.Answering.{read-told}
 use Rattle.cq_server_process.proofs.answer.answer_bytes.Goals as goal
 
 pub returns-in-Err-clause-tells : goal.returns-in-Err-clause-tells
@@ -13,8 +12,3 @@ returns-in-Err-clause-tells c = (
     (unread_as c.in-Err.fault, (refl, inl (c.in-Err.fault, (c.in-Err.ensures.exact, record { stays = refl; ended = c.end.ensures ∙ ap (ended_with c.args.streams.now.ended) c.stream_of.ensures; is = refl })))),
   ),
 )
-
-pub returns-in-Ok-clause-tells : goal.returns-in-Ok-clause-tells
-returns-in-Ok-clause-tells c =
-    read-told c.answer_command.result c.args.bytes.now c.in-Ok.command (process c.args.links.now c.args.core.now c.args.streams.now.ended) (process c.answer_command.new.links c.answer_command.new.core c.answer_command.new.streams.ended)
-    c.args.out.now.items c.answer_command.new.out.items c.answer_command.new.end.items c.in-Ok.ensures.exact c.answer_command.ensures.tells

@@ -1,6 +1,7 @@
 -- A chunk, or that there is no memory.
 use Rattle.std.proofs.Common.{◌≡◌, ◌∙◌, [], ◌∷◌, inl, inr, length, refl, subst, sym}
 use Rattle.cq_frames.specs.declared.response.Response.TheVariants as responses
+use Rattle.cq_process_frames.specs.Frames.{frame}
 use Rattle.cq_server_copies.proofs.Chunks.{one-told, same-front, two-told}
 use Rattle.cq_server_process.specs.Answers.{StandsSo}
 use Rattle.cq_server_copies.proofs.saving.SavingProcess.save.Goals as goal
@@ -58,3 +59,14 @@ returns-in-Err-NoMemory-clause-tells c =
 
 pub returns-in-Err-TooLong-clause-err : goal.returns-in-Err-TooLong-clause-err
 returns-in-Err-TooLong-clause-err c = same-front c.args.out.now.items c.tell_next.new.out.items c.in-Err-TooLong.ensures.err
+
+pub returns-in-Err-clause-front : goal.returns-in-Err-clause-front
+returns-in-Err-clause-front c = same-front c.args.out.now.items c.args.out.now.items refl
+
+pub returns-in-Ok-tell_next-clause-front : goal.returns-in-Ok-tell_next-clause-front
+returns-in-Ok-tell_next-clause-front c =
+    let told = c.in-Ok-tell_next.ensures.ok in
+    (frame (responses.Saved c.in-Ok.copy.count told.1.0), told.1.1.1.1)
+
+pub returns-in-Err-NoMemory-clause-front : goal.returns-in-Err-NoMemory-clause-front
+returns-in-Err-NoMemory-clause-front c = same-front c.args.out.now.items c.tell_next.new.out.items c.in-Err-NoMemory.ensures.err
