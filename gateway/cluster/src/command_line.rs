@@ -175,8 +175,9 @@ impl OfCluster {
     }
 }
 
-fn runtime(threads: usize) -> Result<tokio::runtime::Runtime> {
-    Ok(tokio::runtime::Builder::new_multi_thread().worker_threads(threads).enable_all().build()?)
+/// What tasks do here is little each, and one wakes the next: on one thread they do it without the system's help.
+fn runtime() -> Result<tokio::runtime::Runtime> {
+    Ok(tokio::runtime::Builder::new_current_thread().enable_all().build()?)
 }
 
 /// Runs a node, with the program cq.
@@ -191,7 +192,7 @@ pub fn run_node(node: Node, program: String) -> Result<()> {
     let (is_durable, size, reserve) = (node.durable, node.journal_size.0, node.journal_reserve.0);
     let journal = node.journal.map(|folder| keeping::Settings { folder, is_durable, size, reserve });
     let settings = node::Settings { place, beginning, program, gateway, limits, journal, trace: node.trace };
-    let runtime = runtime(2)?;
+    let runtime = runtime()?;
     let end = runtime.block_on(async { node::run(node.which.find(&[Role::Node]).await?, settings).await })?;
     runtime.shutdown_background();
     match end {
@@ -205,12 +206,12 @@ pub fn run_node(node: Node, program: String) -> Result<()> {
 
 /// Runs a candidate for the master, with the program cq.
 pub fn run_master(master: &Master, program: &str) -> Result<()> {
-    runtime(1)?.block_on(async { master::run(master.which.find(&[Role::Master]).await?, program).await })
+    runtime()?.block_on(async { master::run(master.which.find(&[Role::Master]).await?, program).await })
 }
 
 /// Does what is asked about a cluster. The program is there where one is needed.
 pub fn run_cluster(asked: OfCluster, program: Option<String>) -> Result<()> {
-    runtime(1)?.block_on(async {
+    runtime()?.block_on(async {
         match asked {
             OfCluster::Create { which, nodes } => create(&which, nodes).await,
             OfCluster::Status { which, json } => {

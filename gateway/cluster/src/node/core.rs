@@ -41,6 +41,9 @@ const STOPPED: Duration = Duration::from_millis(1500);
 /// A node that is told to end waits so long for the log to say that it is lost.
 const LEAVING: Duration = Duration::from_secs(10);
 
+/// So many things happen before the server is told of what comes of them.
+const MOST_EVENTS: usize = 256;
+
 /// So many frames of a snapshot are on their way before the next piece is asked for.
 const MOST_PIECES: usize = 16;
 
@@ -92,6 +95,8 @@ enum Wait {
 pub struct Core {
     node: Arc<Shared>,
     child: Child,
+    /// Frames for the server, which are given together.
+    frames: Vec<u8>,
     open: VecDeque<Open>,
     standing: Standing,
     chain: Option<Chain>,
@@ -138,6 +143,7 @@ impl Core {
         Ok(Core {
             node,
             child,
+            frames: Vec::new(),
             open: VecDeque::new(),
             standing: Standing::default(),
             chain: None,
@@ -168,15 +174,29 @@ impl Core {
     pub async fn run(mut self, mut events: UnboundedReceiver<Event>) -> End {
         // Its answer says where the server stands.
         self.give(What::More(Party::Clients), &Command::More(Party::Clients));
+        self.write();
         while let Some(event) = events.recv().await {
             self.happen(event);
+            self.happen_too(&mut events);
             self.settle();
             if let Some(end) = self.end {
                 return end;
             }
             self.go_on();
+            self.write();
         }
         End::Fault("nothing happens any more".into())
+    }
+
+    /// What else has come by now happens too, so that what comes of all of it goes on its way together.
+    fn happen_too(&mut self, events: &mut UnboundedReceiver<Event>) {
+        for _ in 1..MOST_EVENTS {
+            let next = if self.end.is_none() { events.try_recv() } else { return };
+            match next {
+                Ok(event) => self.happen(event),
+                Err(_) => return,
+            }
+        }
     }
 
     fn happen(&mut self, event: Event) {
@@ -244,8 +264,15 @@ impl Core {
             Command::Arrive { request: content, .. } | Command::Take { piece: content, .. } => Some(content.clone()),
             _ => None,
         };
-        self.child.give(frame);
+        self.frames.extend_from_slice(&frame);
         self.open.push_back(Open { what, since: Instant::now(), content, frame: kept, responses: Vec::new() });
+    }
+
+    /// The server is told what it was given.
+    fn write(&mut self) {
+        if !self.frames.is_empty() {
+            self.child.give(std::mem::take(&mut self.frames));
+        }
     }
 
     fn hear(&mut self, response: Response) {
