@@ -151,10 +151,7 @@ pub fn read_answer(message: Bytes) -> Result<Answer, Malformed> {
 
 fn reply(from: &mut Reader) -> Result<StoreReply, Malformed> {
     Ok(match from.byte()? {
-        0 => {
-            let _incarnation = from.number64()?;
-            StoreReply::Created
-        }
+        0 => StoreReply::Created(from.number64()?),
         1 => StoreReply::Removed,
         2 => StoreReply::Sent(from.number64()?),
         3 => StoreReply::Received(messages(from)?),

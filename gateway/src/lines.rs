@@ -189,7 +189,8 @@ pub fn append_moment(out: &mut Vec<u8>, clock: u64) -> Result<(), serde_json::Er
 /// A reply of the store.
 #[derive(Clone, Debug, PartialEq, Eq)]
 pub enum StoreReply {
-    Created,
+    /// The number of the incarnation.
+    Created(u64),
     Removed,
     /// The store's sequence number.
     Sent(u64),
@@ -244,6 +245,7 @@ struct ReadyFields<'a> {
 struct ReplyFields<'a> {
     #[serde(borrow)]
     kind: Cow<'a, str>,
+    incarnation: Option<u64>,
     sequence: Option<u64>,
     messages: Option<Vec<StoreMessage>>,
     removed: Option<bool>,
@@ -301,7 +303,7 @@ pub fn split_lines(text: &[u8]) -> impl Iterator<Item = &[u8]> {
 
 fn read_reply(fields: ReplyFields<'_>) -> Option<StoreReply> {
     Some(match fields.kind.as_ref() {
-        "created" => StoreReply::Created,
+        "created" => StoreReply::Created(fields.incarnation?),
         "removed" => StoreReply::Removed,
         "sent" => StoreReply::Sent(fields.sequence?),
         "received" => StoreReply::Received(fields.messages?),

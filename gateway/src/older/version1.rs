@@ -371,7 +371,7 @@ struct OldGiven<'a> {
 fn old_reply<'a>(reply: &'a StoreReply, incarnation: u64, split: &'a HashMap<String, String>) -> Option<OldReply<'a>> {
     let plain = |kind| OldReply { incarnation: None, kind, messages: None, removed: None, sequence: None };
     Some(match reply {
-        StoreReply::Created => OldReply { incarnation: Some(incarnation), ..plain("created") },
+        StoreReply::Created(_) => OldReply { incarnation: Some(incarnation), ..plain("created") },
         StoreReply::Removed => plain("removed"),
         StoreReply::Sent(sequence) => OldReply { sequence: Some(*sequence), ..plain("sent") },
         StoreReply::Deleted(removed) => OldReply { removed: Some(*removed), ..plain("deleted") },

@@ -302,7 +302,7 @@ impl Queues {
             (_, StoreReply::Refused(code)) if !matches!(ask, Ask::ChangeVisibility { .. }) => {
                 Err(SqsError::of_refusal(code))
             }
-            (Ask::Create { store, .. }, StoreReply::Created) => {
+            (Ask::Create { store, .. }, StoreReply::Created(_)) => {
                 self.created(place, queue, *store);
                 Ok(Outcome::Done)
             }

@@ -83,7 +83,7 @@ impl Parts {
     ) -> Result<Outcome, SqsError> {
         match (ask, reply) {
             (_, StoreReply::Refused(code)) => Err(SqsError::of_refusal(code)),
-            (PartsAsk::Create(_), StoreReply::Created) => {
+            (PartsAsk::Create(_), StoreReply::Created(_)) => {
                 self.found(number);
                 Ok(Outcome::Done)
             }
@@ -194,7 +194,7 @@ mod tests {
     }
 
     fn create(parts: &Parts, number: u64) {
-        parts.apply_reply(number, &PartsAsk::Create(PartsCause::Client), StoreReply::Created, 0).unwrap();
+        parts.apply_reply(number, &PartsAsk::Create(PartsCause::Client), StoreReply::Created(1), 0).unwrap();
     }
 
     #[test]

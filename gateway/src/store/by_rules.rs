@@ -51,6 +51,10 @@ fn refused(code: u32) -> Value {
     json!({"kind": "refused", "code": code})
 }
 
+fn created(incarnation: u64) -> Value {
+    json!({"kind": "created", "incarnation": incarnation})
+}
+
 impl StoreByRules {
     /// The names whose queues live.
     pub fn there(&self) -> BTreeSet<StoreName> {
@@ -99,14 +103,14 @@ impl StoreByRules {
 impl Name {
     fn create(&mut self, timeout: u32, now: Moment) -> Value {
         match &self.queue {
-            Some(queue) if queue.timeout == timeout => json!({"kind": "created"}),
+            Some(queue) if queue.timeout == timeout => created(queue.incarnation),
             Some(_) => refused(2),
             None if self.removed.is_some_and(|removed| now < removed + 60_000) => refused(3),
             None => {
                 self.creations += 1;
                 let incarnation = self.creations;
                 self.queue = Some(LivingQueue { incarnation, timeout, ..LivingQueue::default() });
-                json!({"kind": "created"})
+                created(incarnation)
             }
         }
     }

@@ -364,7 +364,7 @@ fn looks_come_to_each_message_once_and_change_nothing() {
     let queue = Arc::new(Queue::new(&entry));
     let (delays, create) = Queue::beside(&queue, StoreName(1));
     let delays = Arc::new(delays);
-    Queues::default().apply_reply(0, &delays, &create, StoreReply::Created, 0).unwrap();
+    Queues::default().apply_reply(0, &delays, &create, StoreReply::Created(1), 0).unwrap();
     (1..=5).for_each(|place| send_and_keep(&mut queue.state(), place, 10));
     [(1, 60), (2, 50), (3, 60)].into_iter().for_each(|(place, due)| delay(&mut delays.state(), place, due, 10));
     let refused = [70, 80, 90].map(|next| delays.state().refused_due(3, next));
