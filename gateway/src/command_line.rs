@@ -9,6 +9,7 @@ use clap::{Args, CommandFactory, Parser, Subcommand};
 use clap_complete::Shell;
 use hobbychair_cluster::command_line as cluster;
 
+use crate::answers;
 use crate::config::{LogFormat, LogLevel, LogSettings, Misuse, Options};
 use crate::draw::{draw, Drawing};
 use crate::front;
@@ -35,7 +36,13 @@ enum Command {
     #[command(override_usage = "hobbychair serve [OPTIONS]")]
     Serve(Box<Options>),
     /// Write the store that a journal has, in chunks
-    Dump(Journal),
+    Dump {
+        /// Write instead what the store was asked and answered, as a history for check
+        #[arg(long)]
+        answers: bool,
+        #[command(flatten)]
+        journal: Journal,
+    },
     /// Say what a journal or a copy of one holds, and where it is damaged
     Verify(Journal),
     /// Copy a journal, also one of a gateway that runs
@@ -111,7 +118,10 @@ fn run(command: Command) -> Result<()> {
     let mut out = io::BufWriter::new(io::stdout());
     match command {
         Command::Serve(options) => serve_by(*options)?,
-        Command::Dump(Journal { file, cq }) => inspect::dump(&program(cq)?, &file, &mut out)?,
+        Command::Dump { answers: true, journal: Journal { file, cq } } => {
+            answers::dump(&program(cq)?, &file, &mut out)?
+        }
+        Command::Dump { journal: Journal { file, cq }, .. } => inspect::dump(&program(cq)?, &file, &mut out)?,
         Command::Verify(Journal { file, cq }) => inspect::verify(&program(cq)?, &file, &mut out)?,
         Command::Backup { journal: Journal { file, cq }, copy } => {
             inspect::back_up(&program(cq)?, &file, &copy, &mut out)?;

@@ -4,6 +4,7 @@ use bytes::Bytes;
 use hobbychair_cluster::parts::{Malformed, Parts, Reader};
 use thiserror::Error;
 
+use crate::history::stored::{self, Receipt, Request};
 use crate::lines::{AskFields, AskKind, StoreMessage, StoreReply};
 use crate::queues::ask::{Ask, StoreName};
 
@@ -136,6 +137,39 @@ pub fn put_count(out: &mut Vec<u8>, tag: u64, queue: StoreName) {
     out.run(queue.text().as_bytes());
 }
 
+/// An entry, which is a whole: its moment, and its request, which is read and as it is written.
+pub fn read_entry(entry: Bytes) -> Result<(u64, Request, Bytes), Malformed> {
+    /// The bytes of the version and the moment.
+    const FRONT: usize = 9;
+    let mut from = Reader::of_frame(entry.clone())?;
+    let moment = from.number64()?;
+    let (client, number, kind) = (from.number32()?, from.number64()?, from.byte()?);
+    let (queue, ask) = (from.text()?, read_ask(kind, &mut from)?);
+    from.end()?;
+    Ok((moment, Request { client, number, queue, ask }, entry.slice(FRONT..)))
+}
+
+fn read_ask(kind: u8, from: &mut Reader) -> Result<stored::Ask, Malformed> {
+    use stored::Ask;
+    Ok(match kind {
+        0 => Ask::Create { timeout: from.number32()?, makes_ids: from.flag()? },
+        1 => Ask::Remove,
+        2 => Ask::Send {
+            group: from.text()?,
+            dedup: if from.flag()? { Some(from.text()?) } else { None },
+            body: from.text()?,
+        },
+        3 => Ask::Receive { size: from.number32()?, timeout: if from.flag()? { Some(from.number32()?) } else { None } },
+        4 => Ask::Delete { receipt: receipt(from)? },
+        5 => Ask::Change { receipt: receipt(from)?, timeout: from.number32()? },
+        _ => return Err(Malformed("its kind is none of an ask")),
+    })
+}
+
+fn receipt(from: &mut Reader) -> Result<Receipt, Malformed> {
+    Ok(Receipt { incarnation: from.number64()?, sequence: from.number64()?, ordinal: from.number64()? })
+}
+
 /// Reads an answer, as its server put it.
 pub fn read_answer(message: Bytes) -> Result<Answer, Malformed> {
     let mut from = Reader::of_frame(message)?;
@@ -216,6 +250,44 @@ mod tests {
         assert_eq!(bytes_of(&Ask::Remove { store: StoreName(7) }), [&[1][..], name].concat());
         let parts = ask(&AskFields::of(StoreName(7), 0, &Ask::Parts { number: 1, ask: PartsAsk::Read })).unwrap();
         assert_eq!(parts[0], 3);
+    }
+
+    /// The entry of moment 258 with request 9 of client 7, which asks this.
+    fn entry(ask: &[u8]) -> Vec<u8> {
+        let mut out = [&[1][..], &258u64.to_le_bytes()].concat();
+        put_request(&mut out, 7, 9, ask);
+        out
+    }
+
+    #[test]
+    fn entries_are_read() {
+        use stored::Ask;
+        let name = b"\x06\0\0\0q.fifo";
+        let numbers = [1u64, 2, 3].map(u64::to_le_bytes).concat();
+        let receipt = stored::Receipt { incarnation: 1, sequence: 2, ordinal: 3 };
+        let (group, body) = ("g".to_string(), "body".to_string());
+        let texts = [&b"\x01\0\0\0g\x01\x01\0\0\0d"[..], b"\x01\0\0\0g\0"];
+        let sent = texts.map(|texts| [texts, b"\x04\0\0\0body"].concat());
+        let asks = [
+            (0, b"\x09\0\0\0\x01".to_vec(), Ask::Create { timeout: 9, makes_ids: true }),
+            (1, vec![], Ask::Remove),
+            (2, sent[0].clone(), Ask::Send { group: group.clone(), dedup: Some("d".into()), body: body.clone() }),
+            (2, sent[1].clone(), Ask::Send { group, dedup: None, body }),
+            (3, b"\x0a\0\0\0\0".to_vec(), Ask::Receive { size: 10, timeout: None }),
+            (3, b"\x0a\0\0\0\x01\x09\0\0\0".to_vec(), Ask::Receive { size: 10, timeout: Some(9) }),
+            (4, numbers.clone(), Ask::Delete { receipt }),
+            (5, [&numbers[..], b"\x09\0\0\0"].concat(), Ask::Change { receipt, timeout: 9 }),
+        ];
+        for (kind, rest, ask) in asks {
+            let bytes = entry(&[&[kind][..], name, &rest].concat());
+            let request = Request { client: 7, number: 9, queue: "q.fifo".into(), ask };
+            let written = Bytes::copy_from_slice(&bytes[9..]);
+            assert_eq!(read_entry(bytes.clone().into()), Ok((258, request, written)));
+            (0..bytes.len())
+                .for_each(|length| assert!(read_entry(bytes[..length].to_vec().into()).is_err(), "{length}"));
+            assert!(read_entry([&bytes[..], b"\0"].concat().into()).is_err());
+        }
+        assert!(read_entry(entry(&[&[6][..], name].concat()).into()).is_err());
     }
 
     fn answer(reply: &[u8]) -> Bytes {

@@ -51,7 +51,7 @@ impl fmt::Display for Found {
 }
 
 /// The files of a journal that is there.
-fn files_there(path: &Path) -> Result<Vec<PathBuf>> {
+pub fn files_there(path: &Path) -> Result<Vec<PathBuf>> {
     let files = files_of(path)?;
     if files.is_empty() {
         bail!("{}: there is no journal of this version", path.display());

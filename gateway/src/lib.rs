@@ -7,6 +7,7 @@
 mod access;
 mod actions;
 mod admin;
+mod answers;
 mod attributes;
 mod book;
 mod budget;
@@ -29,6 +30,7 @@ mod history;
 mod http;
 mod inspect;
 mod journal;
+mod journal_file;
 mod limits;
 mod lines;
 mod log;

@@ -14,6 +14,7 @@ pub enum Judged {
 #[derive(Clone, Copy, Debug, PartialEq, Eq)]
 pub enum Rule {
     Texts,
+    Repeats,
     Create,
     Remove,
     Send,
@@ -31,6 +32,7 @@ impl fmt::Display for Rule {
     fn fmt(&self, out: &mut fmt::Formatter<'_>) -> fmt::Result {
         let (page, heading) = match self {
             Rule::Texts => ("QUEUES", "Names, ids and bodies"),
+            Rule::Repeats => ("QUEUES", "Repeats"),
             Rule::Create => ("QUEUES", "Create"),
             Rule::Remove => ("QUEUES", "Remove"),
             Rule::Send => ("QUEUES", "Send"),

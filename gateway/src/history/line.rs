@@ -1,6 +1,6 @@
 //! A line of a history: a request, its answer, and the moment at which it took effect.
 
-use serde::Deserialize;
+use serde::{Deserialize, Serialize};
 use serde_json::{Map, Value};
 
 use super::finding::{Finding, Judged, Rule};
@@ -9,23 +9,36 @@ use super::finding::{Finding, Judged, Rule};
 pub type Members = Map<String, Value>;
 
 /// A refusal as a client was told of it.
-#[derive(Clone, Debug, Deserialize)]
+#[derive(Clone, Debug, Serialize, Deserialize)]
 pub struct Refusal {
     pub code: String,
 }
 
+/// Of which store a line is, and which request of which of its clients.
+#[derive(Clone, Copy, Debug, PartialEq, Eq, Serialize, Deserialize)]
+#[serde(deny_unknown_fields)]
+pub struct OfStore {
+    /// The number of its file, from 1.
+    pub file: u64,
+    pub client: u32,
+    pub number: u64,
+}
+
 /// One line.
-#[derive(Clone, Debug, Deserialize)]
+#[derive(Clone, Debug, Serialize, Deserialize)]
 #[serde(deny_unknown_fields)]
 pub struct Line {
     /// In milliseconds.
     pub at: u64,
+    /// None: it is a service's.
+    #[serde(default, skip_serializing_if = "Option::is_none")]
+    pub store: Option<OfStore>,
     pub action: String,
     #[serde(default)]
     pub request: Members,
-    #[serde(default)]
+    #[serde(default, skip_serializing_if = "Option::is_none")]
     pub answer: Option<Members>,
-    #[serde(default)]
+    #[serde(default, skip_serializing_if = "Option::is_none")]
     pub error: Option<Refusal>,
 }
 

@@ -3,22 +3,29 @@
 //! A history is lines of requests with their answers (`line`), in the order in which they took effect. Each answer is
 //! compared with what the rules say of it (`service`, `queue`); where they leave a choice, the answer's is followed. The first
 //! one that they don't allow is found (`finding`).
+//!
+//! Lines of a store (`stored`), as `dump --answers` writes them, are judged by the rules of stores alone (`store`).
 
 mod finding;
-mod line;
+pub mod line;
 mod queue;
 mod service;
+mod store;
+pub mod stored;
 #[cfg(test)]
 mod tests;
 
+use std::collections::HashMap;
 use std::io::{BufRead, Write};
 
 use anyhow::Result;
 
 use crate::config::Misuse;
-use finding::Judged;
+use finding::{Finding, Judged};
 use line::Line;
 use service::Service;
+use store::Store;
+use stored::Request;
 
 /// What is said of a whole history.
 #[derive(Clone, Copy, Debug, Default, PartialEq, Eq)]
@@ -34,7 +41,7 @@ pub struct Told {
 /// Reads a history, and says whether the rules allow it. A line that is none is an error that says which one. Takes time in
 /// proportion to the lines, and a receive of fewer messages than it asked for to the groups of its queue.
 pub fn check(input: impl BufRead, out: &mut impl Write) -> Result<Told> {
-    let (mut service, mut told) = (Service::default(), Told::default());
+    let (mut judges, mut told, mut last) = (Judges::default(), Told::default(), 0);
     for (place, text) in input.lines().enumerate() {
         let (number, text) = (place + 1, text?);
         if text.trim().is_empty() {
@@ -42,8 +49,9 @@ pub fn check(input: impl BufRead, out: &mut impl Write) -> Result<Told> {
         }
         let bad = |why: String| Misuse(format!("line {number} is no line of a history: {why}"));
         let line: Line = serde_json::from_str(&text).map_err(|error| bad(error.to_string()))?;
-        line.test(service.last()).map_err(bad)?;
-        match service.judge(&line) {
+        line.test(last).map_err(bad)?;
+        last = line.at;
+        match judges.judge(&line).map_err(bad)? {
             Ok(Judged::Allowed) => told.allowed += 1,
             Ok(Judged::Not) => told.not_judged += 1,
             Err(finding) => {
@@ -56,4 +64,21 @@ pub fn check(input: impl BufRead, out: &mut impl Write) -> Result<Told> {
     let Told { allowed, not_judged, .. } = told;
     writeln!(out, "{allowed} answers are as the rules say; of {not_judged} they say nothing")?;
     Ok(told)
+}
+
+/// Who says what of a line.
+#[derive(Default)]
+struct Judges {
+    service: Service,
+    /// By the numbers of their files.
+    stores: HashMap<u64, Store>,
+}
+
+impl Judges {
+    /// What the rules say of a line, or why it is none.
+    fn judge(&mut self, line: &Line) -> Result<Result<Judged, Finding>, String> {
+        let Some(of) = line.store else { return Ok(self.service.judge(line)) };
+        let request = Request::of(line, of)?;
+        Ok(self.stores.entry(of.file).or_default().judge(line, &request))
+    }
 }

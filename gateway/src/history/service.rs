@@ -29,7 +29,6 @@ struct Name {
 #[derive(Default)]
 pub struct Service {
     names: HashMap<String, Name>,
-    last: u64,
 }
 
 type Judging = Result<Judged, Finding>;
@@ -38,14 +37,8 @@ type Judging = Result<Judged, Finding>;
 type JudgingOne = fn(&mut Queue, &Line, &Members) -> Judging;
 
 impl Service {
-    /// The moment of the last line.
-    pub fn last(&self) -> u64 {
-        self.last
-    }
-
     /// What the rules say of an answer. Behind one that they don't allow this is of no use any more.
     pub fn judge(&mut self, line: &Line) -> Judging {
-        self.last = line.at;
         if line.is_of_service() {
             return Ok(Judged::Not);
         }

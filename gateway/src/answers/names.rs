@@ -1,0 +1,60 @@
+//! Which incarnation of a queue a message was sent to: the store's answer to a send doesn't say.
+
+use std::collections::HashMap;
+
+use crate::history::stored::Request;
+use crate::lines::StoreReply;
+
+/// The queues of a store that live, behind the answers so far.
+#[derive(Default)]
+pub struct Names {
+    incarnations: HashMap<String, u64>,
+    clients: HashMap<u32, Last>,
+}
+
+/// The largest number of a client, and the incarnation to which it went.
+struct Last {
+    number: u64,
+    incarnation: u64,
+}
+
+impl Names {
+    /// The incarnation to which a request went that was answered so: of a repeat that of the first one. 0: it went to none.
+    pub fn incarnation(&mut self, request: &Request, reply: &StoreReply) -> u64 {
+        if let Some(last) = self.clients.get(&request.client).filter(|last| request.number <= last.number) {
+            return last.incarnation;
+        }
+        let incarnation = self.incarnations.get(&request.queue).copied().unwrap_or(0);
+        match reply {
+            StoreReply::Created(created) => drop(self.incarnations.insert(request.queue.clone(), *created)),
+            StoreReply::Removed => drop(self.incarnations.remove(&request.queue)),
+            _ => {}
+        }
+        self.clients.insert(request.client, Last { number: request.number, incarnation });
+        incarnation
+    }
+}
+
+#[cfg(test)]
+mod tests {
+    use super::*;
+
+    use crate::history::stored::Ask;
+
+    #[test]
+    fn a_send_goes_to_the_incarnation_that_lives_and_a_repeat_to_that_of_the_first() {
+        let mut names = Names::default();
+        let mut of = |client: u32, number: u64, reply: StoreReply| {
+            names.incarnation(&Request { client, number, queue: "q.fifo".into(), ask: Ask::Remove }, &reply)
+        };
+        of(1, 1, StoreReply::Created(1));
+        assert_eq!(of(1, 2, StoreReply::Sent(1)), 1);
+        of(2, 3, StoreReply::Removed);
+        of(2, 4, StoreReply::Created(2));
+        assert_eq!((of(3, 5, StoreReply::Sent(1)), of(1, 2, StoreReply::Sent(1))), (2, 1));
+        // A repeated creation brings nothing back.
+        of(2, 6, StoreReply::Removed);
+        of(1, 1, StoreReply::Created(1));
+        assert_eq!(of(3, 7, StoreReply::Refused(1)), 0);
+    }
+}

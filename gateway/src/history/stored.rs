@@ -1,0 +1,231 @@
+//! What a store is asked and answers (`docs/QUEUES.md`), and how a line of a history has it.
+
+use std::fmt;
+use std::str::FromStr;
+
+use serde_json::{json, Value};
+
+use super::line::{attributes, number, text, Line, Members, OfStore, Refusal};
+use crate::digests::md5_of_text;
+use crate::lines::{StoreMessage, StoreReply};
+
+/// The numbers of refusals.
+pub const NO_QUEUE: u32 = 1;
+pub const OTHER_ATTRIBUTES: u32 = 2;
+pub const REMOVED_LATELY: u32 = 3;
+pub const BAD_RECEIPT: u32 = 4;
+pub const NOT_IN_FLIGHT: u32 = 5;
+pub const BEYOND_LIMIT: u32 = 6;
+pub const STALE: u32 = 7;
+pub const NO_ID: u32 = 8;
+
+/// A request of a client.
+#[derive(Clone, Debug, PartialEq, Eq)]
+pub struct Request {
+    pub client: u32,
+    pub number: u64,
+    /// The name of a queue in the store.
+    pub queue: String,
+    pub ask: Ask,
+}
+
+/// What is asked of a queue. Timeouts are in seconds.
+#[derive(Clone, Debug, PartialEq, Eq)]
+pub enum Ask {
+    Create { timeout: u32, makes_ids: bool },
+    Remove,
+    Send { group: String, dedup: Option<String>, body: String },
+    Receive { size: u32, timeout: Option<u32> },
+    Delete { receipt: Receipt },
+    Change { receipt: Receipt, timeout: u32 },
+}
+
+/// Which handing of which message of which incarnation of a queue. All three are above 0.
+#[derive(Clone, Copy, Debug, PartialEq, Eq)]
+pub struct Receipt {
+    pub incarnation: u64,
+    pub sequence: u64,
+    pub ordinal: u64,
+}
+
+impl fmt::Display for Receipt {
+    fn fmt(&self, out: &mut fmt::Formatter<'_>) -> fmt::Result {
+        write!(out, "{}-{}-{}", self.incarnation, self.sequence, self.ordinal)
+    }
+}
+
+impl FromStr for Receipt {
+    type Err = String;
+
+    fn from_str(text: &str) -> Result<Receipt, String> {
+        let numbers: Vec<u64> =
+            text.split('-').filter_map(|number| number.parse().ok()).filter(|number| *number > 0).collect();
+        match numbers[..] {
+            [incarnation, sequence, ordinal] if text == format!("{incarnation}-{sequence}-{ordinal}") => {
+                Ok(Receipt { incarnation, sequence, ordinal })
+            }
+            _ => Err(format!("{text:?} is no receipt of a store")),
+        }
+    }
+}
+
+/// What a store answered: members, or the code of a refusal.
+pub type Told = Result<Members, String>;
+
+impl Ask {
+    fn action(&self) -> &'static str {
+        match self {
+            Ask::Create { .. } => "CreateQueue",
+            Ask::Remove => "DeleteQueue",
+            Ask::Send { .. } => "SendMessage",
+            Ask::Receive { .. } => "ReceiveMessage",
+            Ask::Delete { .. } => "DeleteMessage",
+            Ask::Change { .. } => "ChangeMessageVisibility",
+        }
+    }
+}
+
+impl Request {
+    /// The line of this request to the store of the file of this number, at this moment.
+    pub fn line(&self, file: u64, at: u64, told: Told) -> Line {
+        let (answer, error) = match told {
+            Ok(answer) => (Some(answer), None),
+            Err(code) => (None, Some(Refusal { code })),
+        };
+        let store = Some(OfStore { file, client: self.client, number: self.number });
+        Line { at, store, action: self.ask.action().into(), request: self.members(), answer, error }
+    }
+
+    fn members(&self) -> Members {
+        let mut members = Members::new();
+        let mut put = |name: &str, value: Value| drop(members.insert(name.into(), value));
+        let name = if matches!(self.ask, Ask::Create { .. }) { "QueueName" } else { "QueueUrl" };
+        put(name, self.queue.as_str().into());
+        match &self.ask {
+            Ask::Create { timeout, makes_ids } => {
+                let (timeout, makes_ids) = (timeout.to_string(), makes_ids.to_string());
+                let given =
+                    json!({"FifoQueue": "true", "VisibilityTimeout": timeout, "ContentBasedDeduplication": makes_ids});
+                put("Attributes", given);
+            }
+            Ask::Remove => {}
+            Ask::Send { group, dedup, body } => {
+                put("MessageGroupId", group.as_str().into());
+                dedup.iter().for_each(|dedup| put("MessageDeduplicationId", dedup.as_str().into()));
+                put("MessageBody", body.as_str().into());
+            }
+            Ask::Receive { size, timeout } => {
+                put("MaxNumberOfMessages", (*size).into());
+                timeout.iter().for_each(|timeout| put("VisibilityTimeout", (*timeout).into()));
+            }
+            Ask::Delete { receipt } => put("ReceiptHandle", receipt.to_string().into()),
+            Ask::Change { receipt, timeout } => {
+                put("ReceiptHandle", receipt.to_string().into());
+                put("VisibilityTimeout", (*timeout).into());
+            }
+        }
+        members
+    }
+
+    /// The request of a line of a store, or why it is none.
+    pub fn of(line: &Line, store: OfStore) -> Result<Request, String> {
+        let members = &line.request;
+        let given = |name: &str| text(members, name).map(String::from).ok_or_else(|| format!("it has no {name}"));
+        let count =
+            |name: &str| number(members, name).map(|number| u32::try_from(number).map_err(|_| bad(name))).transpose();
+        let needed = |name: &str| count(name)?.ok_or_else(|| format!("it has no {name}"));
+        let receipt = || given("ReceiptHandle")?.parse::<Receipt>();
+        let queue = if line.action == "CreateQueue" { "QueueName" } else { "QueueUrl" };
+        let ask = match line.action.as_str() {
+            "CreateQueue" => created(members)?,
+            "DeleteQueue" => Ask::Remove,
+            "SendMessage" => Ask::Send {
+                group: given("MessageGroupId")?,
+                dedup: text(members, "MessageDeduplicationId").map(String::from),
+                body: given("MessageBody")?,
+            },
+            "ReceiveMessage" => {
+                Ask::Receive { size: needed("MaxNumberOfMessages")?, timeout: count("VisibilityTimeout")? }
+            }
+            "DeleteMessage" => Ask::Delete { receipt: receipt()? },
+            "ChangeMessageVisibility" => Ask::Change { receipt: receipt()?, timeout: needed("VisibilityTimeout")? },
+            other => return Err(format!("a store knows no {other}")),
+        };
+        Ok(Request { client: store.client, number: store.number, queue: given(queue)?, ask })
+    }
+
+    /// How the store's reply stands in a line. `incarnation` is that of the queue to which a message was sent. None: it is the reply to
+    /// no request.
+    pub fn told(&self, incarnation: u64, reply: &StoreReply) -> Option<Told> {
+        let mut answer = Members::new();
+        let mut put = |name: &str, value: Value| drop(answer.insert(name.into(), value));
+        match reply {
+            StoreReply::Created(incarnation) => {
+                put("QueueUrl", self.queue.as_str().into());
+                put("Incarnation", (*incarnation).into());
+            }
+            StoreReply::Removed | StoreReply::Changed => {}
+            StoreReply::Sent(sequence) => {
+                put("MessageId", format!("{incarnation}-{sequence}").into());
+                put("SequenceNumber", sequence.to_string().into());
+                if let Ask::Send { body, .. } = &self.ask {
+                    put("MD5OfMessageBody", md5_of_text(body).into());
+                }
+            }
+            StoreReply::Received(messages) => {
+                put("Messages", messages.iter().map(handed).collect::<Option<Vec<_>>>()?.into());
+            }
+            StoreReply::Deleted(removed) => put("Removed", (*removed).into()),
+            StoreReply::Refused(refusal) => return Some(Err(code(*refusal)?.into())),
+            StoreReply::Counts { .. } => return None,
+        }
+        Some(Ok(answer))
+    }
+}
+
+fn bad(name: &str) -> String {
+    format!("its {name} is none of a store's")
+}
+
+fn created(members: &Members) -> Result<Ask, String> {
+    let given = attributes(members, "Attributes");
+    let value = |name: &str| given.iter().find(|(known, _)| known == name).map(|(_, value)| value.as_str());
+    let timeout =
+        value("VisibilityTimeout").and_then(|value| value.parse().ok()).ok_or_else(|| bad("VisibilityTimeout"))?;
+    let makes_ids = match value("ContentBasedDeduplication") {
+        Some("true") => true,
+        Some("false") => false,
+        _ => return Err(bad("ContentBasedDeduplication")),
+    };
+    Ok(Ask::Create { timeout, makes_ids })
+}
+
+fn handed(message: &StoreMessage) -> Option<Value> {
+    let StoreMessage { body, group, receipt } = message;
+    let Receipt { incarnation, sequence, ordinal } = receipt.parse().ok()?;
+    Some(json!({
+        "MessageId": format!("{incarnation}-{sequence}"),
+        "ReceiptHandle": receipt,
+        "Body": body,
+        "MD5OfBody": md5_of_text(body),
+        "Attributes": {
+            "ApproximateReceiveCount": ordinal.to_string(),
+            "MessageGroupId": group,
+            "SequenceNumber": sequence.to_string(),
+        },
+    }))
+}
+
+/// The code that SQS has for a refusal. For one of a number that was used it has none.
+fn code(refusal: u32) -> Option<&'static str> {
+    Some(match refusal {
+        NO_QUEUE => "QueueDoesNotExist",
+        OTHER_ATTRIBUTES => "QueueAlreadyExists",
+        REMOVED_LATELY => "QueueDeletedRecently",
+        BAD_RECEIPT => "ReceiptHandleIsInvalid",
+        NOT_IN_FLIGHT => "MessageNotInflight",
+        BEYOND_LIMIT | NO_ID => "InvalidParameterValue",
+        STALE => "StaleNumber",
+        _ => return None,
+    })
+}

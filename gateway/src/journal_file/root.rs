@@ -1,0 +1,81 @@
+//! The root of a file, which says which regions count.
+
+use std::collections::HashSet;
+use std::fs::File;
+use std::os::unix::fs::FileExt;
+
+use super::frames::{number, record_at};
+use super::{JournalFileError, Lengths};
+
+/// How many digits a number and a place have.
+const DIGITS: usize = 5;
+
+/// A root that was read.
+#[derive(Clone, Debug, PartialEq, Eq)]
+pub struct Root {
+    /// Each change gives it the next one. It is above 0.
+    number: u64,
+    /// Where the regions begin that count, in their order.
+    pub places: Vec<u64>,
+}
+
+impl Root {
+    /// Reads the one that counts. Where one half is damaged, both are read once more: one may have been read while it was changed.
+    pub fn read(file: &File, lengths: Lengths) -> Result<Root, JournalFileError> {
+        match Root::read_once(file, lengths) {
+            Err(JournalFileError::Damaged(_)) => Root::read_once(file, lengths),
+            read => read,
+        }
+    }
+
+    fn read_once(file: &File, lengths: Lengths) -> Result<Root, JournalFileError> {
+        let length = file.metadata()?.len();
+        let half = lengths.half as u64;
+        if length < 2 * half {
+            return Err(JournalFileError::NotAJournal);
+        }
+        let (first, second) = (read_half(file, 0, lengths)?, read_half(file, half, lengths)?);
+        let root = match (first, second) {
+            (Some(first), Some(second)) if first.number == second.number => {
+                return Err(JournalFileError::Damaged(0));
+            }
+            (Some(first), Some(second)) if first.number < second.number => second,
+            (Some(first), _) => first,
+            (None, Some(second)) => second,
+            (None, None) => return Err(JournalFileError::NotAJournal),
+        };
+        root.test_places(length, lengths)?;
+        Ok(root)
+    }
+
+    /// Refuses regions that no journal has: they lie in steps behind the root, within the file, and apart.
+    fn test_places(&self, length: u64, lengths: Lengths) -> Result<(), JournalFileError> {
+        let (front, region) = (2 * lengths.half as u64, lengths.region as u64);
+        let is_good = |place: &u64| *place >= front && (place - front) % region == 0 && place + region <= length;
+        let apart: HashSet<_> = self.places.iter().collect();
+        let are_good = self.places.iter().all(is_good) && apart.len() == self.places.len();
+        (are_good && !self.places.is_empty()).then_some(()).ok_or(JournalFileError::NotAJournal)
+    }
+
+    /// Whether it names all regions that the earlier one does, in their order, and each change between the two named one more: then what
+    /// the earlier one names has stayed where it was.
+    pub fn has_grown_from(&self, earlier: &Root) -> bool {
+        let more = self.places.len().checked_sub(earlier.places.len());
+        let changes = self.number.checked_sub(earlier.number);
+        more.is_some() && more.map(|more| more as u64) == changes && self.places.starts_with(&earlier.places)
+    }
+}
+
+/// The root of the half that begins there, if it has one.
+fn read_half(file: &File, start: u64, lengths: Lengths) -> Result<Option<Root>, JournalFileError> {
+    let mut half = vec![0; lengths.half];
+    file.read_exact_at(&mut half, start)?;
+    let damaged = || JournalFileError::Damaged(start);
+    let Some(record) = record_at(&half, 0).map_err(|_| damaged())? else { return Ok(None) };
+    if record.len() % DIGITS != 0 {
+        return Err(damaged());
+    }
+    let mut numbers = half[record].chunks(DIGITS).map(number);
+    let first = numbers.next().unwrap_or(0);
+    Ok((first > 0).then(|| Root { number: first, places: numbers.collect() }))
+}
