@@ -84,6 +84,11 @@ impl Cq {
         Cq::start_as(program, &["server", "--id", "1", "--first", "1"], file)
     }
 
+    /// Starts the only server of a chain, which begins with the store that it is given.
+    pub fn start_loading(program: &str) -> Result<Cq, CqError> {
+        Cq::start_as(program, &["server", "--id", "1", "--first", "1", "--load"], None)
+    }
+
     /// Starts a session. One that keeps its lines in a file first tells that it is ready.
     pub fn start_session(program: &str, file: Option<&KeptFile>) -> Result<Cq, CqError> {
         Cq::start_as(program, &["session"], file)

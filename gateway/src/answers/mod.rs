@@ -10,15 +10,14 @@ mod server;
 use std::io::Write;
 use std::path::{Path, PathBuf};
 
-use anyhow::{bail, Context, Result};
+use anyhow::{Context, Result};
 use tokio::runtime;
 use tokio::sync::mpsc;
 
 use crate::clock::Moment;
 use crate::cq::{test_built, test_version};
 use crate::inspect::files_there;
-use crate::journal_file::{JournalFile, Kept, SERVER};
-use crate::store_bytes::{Part, StoreReader};
+use crate::journal_file::{JournalFile, SERVER};
 
 /// So many lines of a file may wait for earlier ones of others.
 const AHEAD: usize = 16;
@@ -41,8 +40,8 @@ struct Source {
 type Lines = mpsc::Receiver<Result<Told>>;
 
 /// Writes a line for each request that the files of a journal have, in the order of their moments, and those of one moment file by
-/// file. Where requests are gone, since a store has their place, that is an error, and nothing is written. Behind other errors the
-/// lines are there that were before.
+/// file. Where a store has the place of a file's first requests, that is said, and its lines begin with that store. Behind an error
+/// the lines are there that were before.
 pub fn dump(program: &str, path: &Path, out: &mut impl Write) -> Result<()> {
     runtime::Builder::new_current_thread().enable_all().build()?.block_on(async {
         test_built(program).await?;
@@ -52,35 +51,14 @@ pub fn dump(program: &str, path: &Path, out: &mut impl Write) -> Result<()> {
     })
 }
 
-/// Opens the files of a journal, none of which lacks an entry.
+/// Opens the files of a journal.
 fn open(path: &Path) -> Result<Vec<Source>> {
-    let (mut sources, mut gone) = (Vec::new(), Vec::new());
+    let mut sources = Vec::new();
     for (number, path) in (1..).zip(files_there(path)?) {
-        let about = || path.display().to_string();
-        let mut journal = JournalFile::open(&path, SERVER).with_context(about)?;
-        if journal.has_store() {
-            let entries = entries_of_store(&mut journal).with_context(about)?;
-            gone.push(format!("{}: its first {entries} requests are gone, since a store has their place", about()));
-        }
+        let journal = JournalFile::open(&path, SERVER).with_context(|| path.display().to_string())?;
         sources.push(Source { path, number, journal });
     }
-    if !gone.is_empty() {
-        bail!(gone.join("; "));
-    }
     Ok(sources)
-}
-
-/// How many entries led to the store with which a file begins.
-fn entries_of_store(journal: &mut JournalFile) -> Result<u64> {
-    let Some(Kept::Chunk(chunk)) = journal.next()? else { return Err(journal.damaged().into()) };
-    let mut entries = None;
-    let mut take = |part: Part<'_>| {
-        if let Part::Start { entries: count, .. } = part {
-            entries = Some(count);
-        }
-    };
-    StoreReader::default().feed(&chunk, &mut take).map_err(|_| journal.damaged())?;
-    Ok(entries.ok_or_else(|| journal.damaged())?)
 }
 
 /// Has a program answer the entries of a file. An error is the last that comes of it.

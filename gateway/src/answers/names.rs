@@ -4,6 +4,7 @@ use std::collections::HashMap;
 
 use crate::history::stored::Request;
 use crate::lines::StoreReply;
+use crate::store_bytes::Part;
 
 /// The queues of a store that live, behind the answers so far.
 #[derive(Default)]
@@ -19,7 +20,22 @@ struct Last {
 }
 
 impl Names {
-    /// The incarnation to which a request went that was answered so: of a repeat that of the first one. 0: it went to none.
+    /// Notes a part of the store with which the file begins.
+    pub fn load(&mut self, part: &Part<'_>) {
+        match part {
+            // Of which incarnation its message was isn't told there.
+            Part::Client { client, number } => {
+                self.clients.insert(*client, Last { number: *number, incarnation: 0 });
+            }
+            Part::Name { name, queue: Some(queue), .. } => {
+                self.incarnations.insert(name.to_string(), queue.incarnation);
+            }
+            _ => {}
+        }
+    }
+
+    /// The incarnation to which a request went that was answered so: of a repeat that of the first one. 0: it went to none, or that isn't
+    /// known.
     pub fn incarnation(&mut self, request: &Request, reply: &StoreReply) -> u64 {
         if let Some(last) = self.clients.get(&request.client).filter(|last| request.number <= last.number) {
             return last.incarnation;

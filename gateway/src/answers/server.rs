@@ -1,10 +1,13 @@
-//! A program that is given the entries of a file, and answers them.
+//! A program that is given what a file has, and answers its entries.
 //!
 //! Entries are given ahead, in one stream, and the answers come in their order. What was given and isn't answered yet is bounded.
 
+use std::io::Write;
+use std::path::PathBuf;
+
 use anyhow::{anyhow, Result};
 use bytes::Bytes;
-use hobbychair_cluster::commands::{append_arrival, Party, Response, NO_MEMORY};
+use hobbychair_cluster::commands::{append_arrival, Command, Party, Response, NO_MEMORY};
 use hobbychair_cluster::parts::{Cutter, FRAME_LIMIT};
 use tokio::io::{AsyncReadExt, AsyncWriteExt};
 use tokio::sync::mpsc;
@@ -14,12 +17,14 @@ use super::{Source, Told};
 use crate::clock::Moment;
 use crate::cq::{Cq, CqError};
 use crate::frames::{read_answer, read_entry, BadFrame};
-use crate::history::stored::Request;
-use crate::journal_file::{JournalFile, Kept};
+use crate::history::line::Line;
+use crate::history::stored::{line_of_chunk, Request};
+use crate::journal_file::{JournalFile, JournalFileError, Kept};
 use crate::lines::StoreReply;
 use crate::pipes::{Input, Output};
+use crate::store_bytes::{Part, StoreReader};
 
-/// So many bytes of entries are written at once.
+/// So many bytes are written at once, or a little more.
 const BATCH: usize = 64 * 1024;
 
 /// So many batches are given ahead.
@@ -31,10 +36,12 @@ const PIECE: usize = 256 * 1024;
 /// All arrivals are of this stream: none of them is refused.
 const STREAM: u64 = 1;
 
-/// An entry that was given.
-struct Given {
-    moment: Moment,
-    request: Request,
+/// Something that was given.
+enum Given {
+    Chunk(Vec<u8>),
+    /// Behind the last chunk.
+    EndOfStore,
+    Entry(Moment, Request),
 }
 
 /// Why there are no more lines.
@@ -52,15 +59,16 @@ impl<E: Into<anyhow::Error>> From<E> for Halt {
     }
 }
 
-/// Sends a line for each entry of a file, with its answer.
+/// Sends a line for each entry of a file, with its answer. Before these come lines of the store with which the file begins, if it
+/// does so.
 pub async fn tell(program: &str, source: Source, lines: &mpsc::Sender<Result<Told>>) -> Result<()> {
-    let Source { number, mut journal, .. } = source;
-    let mut cq = Cq::start_server(program, None)?;
+    let Source { path, number, journal } = source;
+    let mut cq = if journal.has_store() { Cq::start_loading(program)? } else { Cq::start_server(program, None)? };
     let (batches, given) = mpsc::channel(BATCHES);
-    let giving = give(&mut journal, &mut cq.input, batches);
-    let mut answers = Answers { output: &mut cq.output, cutter: Cutter::default() };
-    let told = tokio::try_join!(giving, answers.tell(number, given, lines));
-    match told {
+    let giving = Giving { journal, last: 0 };
+    let answers = Answers { output: &mut cq.output, cutter: Cutter::default() };
+    let telling = Telling { path, file: number, answers, begin: 0, names: Names::default(), lines };
+    match tokio::try_join!(giving.give(&mut cq.input, batches), telling.tell(given)) {
         Ok(_) | Err(Halt::Unwanted) => Ok(()),
         Err(Halt::Gone(error)) if error.kind() == std::io::ErrorKind::TimedOut => {
             Err(CqError::Gone(error.to_string()).into())
@@ -70,29 +78,118 @@ pub async fn tell(program: &str, source: Source, lines: &mpsc::Sender<Result<Tol
     }
 }
 
-/// Gives the program all entries of a file. What they ask is told before they are written, so that whoever reads the answers knows.
-async fn give(journal: &mut JournalFile, input: &mut Input, batches: mpsc::Sender<Vec<Given>>) -> Result<(), Halt> {
-    let mut last = 0;
-    loop {
-        let (mut batch, mut bytes) = (Vec::new(), Vec::new());
-        while bytes.len() < BATCH {
-            let Some(kept) = journal.next()? else { break };
-            let Kept::Entry(entry) = kept else { return Err(journal.damaged().into()) };
-            let (moment, request, written) = read_entry(Bytes::from(entry)).map_err(|_| journal.damaged())?;
-            if moment < last {
-                return Err(journal.damaged().into());
+/// What a file has, as it is given to a program.
+struct Giving {
+    journal: JournalFile,
+    /// The moment of the last entry.
+    last: Moment,
+}
+
+impl Giving {
+    /// Gives all of it. What is given is told before it is written, so that whoever reads the answers knows.
+    async fn give(mut self, input: &mut Input, batches: mpsc::Sender<Vec<Given>>) -> Result<(), Halt> {
+        loop {
+            let (mut batch, mut bytes) = (Vec::new(), Vec::new());
+            while bytes.len() < BATCH {
+                let Some(given) = self.next(&mut bytes)? else { break };
+                batch.push(given);
             }
-            last = moment;
-            append_arrival(&mut bytes, STREAM, moment, |out| out.extend_from_slice(&written));
-            batch.push(Given { moment, request });
+            if batch.is_empty() {
+                return Ok(());
+            }
+            if batches.send(batch).await.is_err() {
+                return Err(Halt::Unwanted);
+            }
+            input.write_all(&bytes).await.map_err(Halt::Gone)?;
         }
-        if batch.is_empty() {
-            return Ok(());
+    }
+
+    /// The next thing, whose command is appended.
+    fn next(&mut self, out: &mut Vec<u8>) -> Result<Option<Given>, JournalFileError> {
+        let given = match self.journal.next()? {
+            None => return Ok(None),
+            Some(Kept::Chunk(chunk)) => {
+                out.extend(Command::Load(Bytes::copy_from_slice(&chunk)).frame());
+                Given::Chunk(chunk)
+            }
+            Some(Kept::EndOfStore) => {
+                out.extend(Command::Load(Bytes::new()).frame());
+                Given::EndOfStore
+            }
+            Some(Kept::Entry(entry)) => self.arrival(entry, out)?,
+        };
+        Ok(Some(given))
+    }
+
+    fn arrival(&mut self, entry: Vec<u8>, out: &mut Vec<u8>) -> Result<Given, JournalFileError> {
+        let read = read_entry(Bytes::from(entry));
+        let (moment, request, written) = read.map_err(|_| self.journal.damaged())?;
+        if moment < self.last {
+            return Err(self.journal.damaged());
         }
-        if batches.send(batch).await.is_err() {
-            return Err(Halt::Unwanted);
+        self.last = moment;
+        append_arrival(out, STREAM, moment, |out| out.extend_from_slice(&written));
+        Ok(Given::Entry(moment, request))
+    }
+}
+
+/// What is given to a program, as lines tell it.
+struct Telling<'a> {
+    path: PathBuf,
+    /// The number of the file.
+    file: u64,
+    answers: Answers<'a>,
+    /// The moment of the store with which the file begins.
+    begin: Moment,
+    names: Names,
+    lines: &'a mpsc::Sender<Result<Told>>,
+}
+
+impl Telling<'_> {
+    /// Sends the lines of all that is given.
+    async fn tell(mut self, mut given: mpsc::Receiver<Vec<Given>>) -> Result<(), Halt> {
+        let mut store = StoreReader::default();
+        while let Some(batch) = given.recv().await {
+            for given in batch {
+                let line = match given {
+                    Given::Chunk(chunk) => self.chunk(&mut store, &chunk).await?,
+                    Given::EndOfStore => {
+                        self.answers.loaded().await?;
+                        continue;
+                    }
+                    Given::Entry(moment, request) => self.entry(moment, &request).await?,
+                };
+                let told = Told { at: line.at, line: serde_json::to_string(&line)? };
+                self.lines.send(Ok(told)).await.map_err(|_| Halt::Unwanted)?;
+            }
         }
-        input.write_all(&bytes).await.map_err(Halt::Gone)?;
+        Ok(())
+    }
+
+    async fn chunk(&mut self, store: &mut StoreReader, chunk: &[u8]) -> Result<Line, Halt> {
+        let (mut entries, names, begin) = (None, &mut self.names, &mut self.begin);
+        let read = store.feed(chunk, |part| match part {
+            Part::Start { entries: count, last } => (entries, *begin) = (Some(count), last),
+            part => names.load(&part),
+        });
+        read.map_err(|fault| anyhow!("the store with which it begins can't be read: {fault}"))?;
+        if let Some(entries) = entries {
+            let file = self.path.display();
+            // Where nobody reads that, the line says so, too.
+            let _ = writeln!(
+                std::io::stderr(),
+                "hobbychair: {file}: its first {entries} requests are gone: the history begins with the store that they made"
+            );
+        }
+        self.answers.chunk().await?;
+        Ok(line_of_chunk(self.file, self.begin, chunk))
+    }
+
+    async fn entry(&mut self, moment: Moment, request: &Request) -> Result<Line, Halt> {
+        let reply = self.answers.to(request).await?;
+        let incarnation = self.names.incarnation(request, &reply);
+        let told = request.told(incarnation, &reply).ok_or_else(other)?;
+        Ok(request.line(self.file, moment, told))
     }
 }
 
@@ -103,24 +200,20 @@ struct Answers<'a> {
 }
 
 impl Answers<'_> {
-    /// Sends the line of each entry that was given to the program of the file of this number.
-    async fn tell(
-        &mut self,
-        file: u64,
-        mut given: mpsc::Receiver<Vec<Given>>,
-        lines: &mpsc::Sender<Result<Told>>,
-    ) -> Result<(), Halt> {
-        let mut names = Names::default();
-        while let Some(batch) = given.recv().await {
-            for Given { moment, request } in batch {
-                let reply = self.to(&request).await?;
-                let incarnation = names.incarnation(&request, &reply);
-                let told = request.told(incarnation, &reply).ok_or_else(other)?;
-                let line = serde_json::to_string(&request.line(file, moment, told))?;
-                lines.send(Ok(Told { at: moment, line })).await.map_err(|_| Halt::Unwanted)?;
-            }
+    /// A chunk was taken.
+    async fn chunk(&mut self) -> Result<(), Halt> {
+        match self.next().await? {
+            Response::Heard => Ok(()),
+            _ => Err(other().into()),
         }
-        Ok(())
+    }
+
+    /// So was the last one.
+    async fn loaded(&mut self) -> Result<(), Halt> {
+        match self.next().await? {
+            Response::Done(_) => Ok(()),
+            _ => Err(other().into()),
+        }
     }
 
     /// The reply to the next request.

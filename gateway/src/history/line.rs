@@ -20,8 +20,11 @@ pub struct Refusal {
 pub struct OfStore {
     /// The number of its file, from 1.
     pub file: u64,
-    pub client: u32,
-    pub number: u64,
+    /// None, and no number: the line is no request.
+    #[serde(default, skip_serializing_if = "Option::is_none")]
+    pub client: Option<u32>,
+    #[serde(default, skip_serializing_if = "Option::is_none")]
+    pub number: Option<u64>,
 }
 
 /// One line.

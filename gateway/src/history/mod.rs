@@ -15,6 +15,7 @@ pub mod stored;
 #[cfg(test)]
 mod tests;
 
+use std::collections::hash_map::Entry;
 use std::collections::HashMap;
 use std::io::{BufRead, Write};
 
@@ -24,8 +25,8 @@ use crate::config::Misuse;
 use finding::{Finding, Judged};
 use line::Line;
 use service::Service;
-use store::Store;
-use stored::Request;
+use store::{Loading, Store};
+use stored::{chunk_of, Request, LOAD};
 
 /// What is said of a whole history.
 #[derive(Clone, Copy, Debug, Default, PartialEq, Eq)]
@@ -72,13 +73,37 @@ struct Judges {
     service: Service,
     /// By the numbers of their files.
     stores: HashMap<u64, Store>,
+    /// Those that begin with what stands for earlier requests, before their first request.
+    loading: HashMap<u64, Loading>,
 }
 
 impl Judges {
     /// What the rules say of a line, or why it is none.
     fn judge(&mut self, line: &Line) -> Result<Result<Judged, Finding>, String> {
         let Some(of) = line.store else { return Ok(self.service.judge(line)) };
+        if line.action == LOAD {
+            return self.load(of.file, &chunk_of(line)?).map(|()| Ok(Judged::Not));
+        }
         let request = Request::of(line, of)?;
-        Ok(self.stores.entry(of.file).or_default().judge(line, &request))
+        Ok(self.store(of.file)?.judge(line, &request))
+    }
+
+    fn load(&mut self, file: u64, chunk: &[u8]) -> Result<(), String> {
+        if self.stores.contains_key(&file) {
+            return Err("its store was asked something before".into());
+        }
+        let loaded = self.loading.entry(file).or_default().feed(chunk);
+        loaded.map_err(|fault| format!("its chunk is none that comes next: {fault}"))
+    }
+
+    /// The store of the file of this number: an empty one, if nothing was loaded.
+    fn store(&mut self, file: u64) -> Result<&mut Store, String> {
+        let of_file = match self.stores.entry(file) {
+            Entry::Occupied(found) => return Ok(found.into_mut()),
+            Entry::Vacant(of_file) => of_file,
+        };
+        let loaded = self.loading.remove(&file).map(Loading::end).transpose();
+        let store = loaded.map_err(|fault| format!("what was loaded before isn't whole: {fault}"))?;
+        Ok(of_file.insert(store.unwrap_or_default()))
     }
 }

@@ -72,6 +72,25 @@ impl FromStr for Receipt {
 /// What a store answered: members, or the code of a refusal.
 pub type Told = Result<Members, String>;
 
+/// The action of a line that is no request: it has a chunk of the store with which a file begins.
+pub const LOAD: &str = "LoadStore";
+
+const CHUNK: &str = "Chunk";
+
+/// The line of a chunk of the store with which the file of this number begins (`docs/WIRE.md`, "A store"). `at` is the moment of the
+/// last request that led to that.
+pub fn line_of_chunk(file: u64, at: u64, chunk: &[u8]) -> Line {
+    let store = Some(OfStore { file, client: None, number: None });
+    let request = Members::from_iter([(CHUNK.to_string(), base64::encode(chunk).into())]);
+    Line { at, store, action: LOAD.into(), request, answer: Some(Members::new()), error: None }
+}
+
+/// The chunk in such a line.
+pub fn chunk_of(line: &Line) -> Result<Vec<u8>, String> {
+    let chunk = text(&line.request, CHUNK).ok_or_else(|| missing(CHUNK))?;
+    base64::decode(chunk).map_err(|_| bad(CHUNK))
+}
+
 impl Ask {
     fn action(&self) -> &'static str {
         match self {
@@ -92,7 +111,7 @@ impl Request {
             Ok(answer) => (Some(answer), None),
             Err(code) => (None, Some(Refusal { code })),
         };
-        let store = Some(OfStore { file, client: self.client, number: self.number });
+        let store = Some(OfStore { file, client: Some(self.client), number: Some(self.number) });
         Line { at, store, action: self.ask.action().into(), request: self.members(), answer, error }
     }
 
@@ -130,10 +149,10 @@ impl Request {
     /// The request of a line of a store, or why it is none.
     pub fn of(line: &Line, store: OfStore) -> Result<Request, String> {
         let members = &line.request;
-        let given = |name: &str| text(members, name).map(String::from).ok_or_else(|| format!("it has no {name}"));
+        let given = |name: &str| text(members, name).map(String::from).ok_or_else(|| missing(name));
         let count =
             |name: &str| number(members, name).map(|number| u32::try_from(number).map_err(|_| bad(name))).transpose();
-        let needed = |name: &str| count(name)?.ok_or_else(|| format!("it has no {name}"));
+        let needed = |name: &str| count(name)?.ok_or_else(|| missing(name));
         let receipt = || given("ReceiptHandle")?.parse::<Receipt>();
         let queue = if line.action == "CreateQueue" { "QueueName" } else { "QueueUrl" };
         let ask = match line.action.as_str() {
@@ -151,11 +170,13 @@ impl Request {
             "ChangeMessageVisibility" => Ask::Change { receipt: receipt()?, timeout: needed("VisibilityTimeout")? },
             other => return Err(format!("a store knows no {other}")),
         };
-        Ok(Request { client: store.client, number: store.number, queue: given(queue)?, ask })
+        let (client, number) = (store.client, store.number);
+        let (client, number) = client.zip(number).ok_or_else(|| missing("client or no number"))?;
+        Ok(Request { client, number, queue: given(queue)?, ask })
     }
 
-    /// How the store's reply stands in a line. `incarnation` is that of the queue to which a message was sent. None: it is the reply to
-    /// no request.
+    /// How the store's reply stands in a line. `incarnation` is that of the queue to which a message was sent; where it is 0, that isn't
+    /// known, and no MessageId is told. None: it is the reply to no request.
     pub fn told(&self, incarnation: u64, reply: &StoreReply) -> Option<Told> {
         let mut answer = Members::new();
         let mut put = |name: &str, value: Value| drop(answer.insert(name.into(), value));
@@ -166,7 +187,9 @@ impl Request {
             }
             StoreReply::Removed | StoreReply::Changed => {}
             StoreReply::Sent(sequence) => {
-                put("MessageId", format!("{incarnation}-{sequence}").into());
+                if incarnation > 0 {
+                    put("MessageId", format!("{incarnation}-{sequence}").into());
+                }
                 put("SequenceNumber", sequence.to_string().into());
                 if let Ask::Send { body, .. } = &self.ask {
                     put("MD5OfMessageBody", md5_of_text(body).into());
@@ -181,6 +204,10 @@ impl Request {
         }
         Some(Ok(answer))
     }
+}
+
+fn missing(name: &str) -> String {
+    format!("it has no {name}")
 }
 
 fn bad(name: &str) -> String {

@@ -55,6 +55,8 @@ pub enum JournalFileError {
 pub enum Kept {
     /// Of the store that stands for earlier entries.
     Chunk(Vec<u8>),
+    /// Behind the last chunk.
+    EndOfStore,
     Entry(Vec<u8>),
 }
 
@@ -103,7 +105,7 @@ impl JournalFile {
         Ok(begun)
     }
 
-    /// Whether it begins with a store, which stands for earlier entries.
+    /// Whether chunks of a store come next, which stands for earlier entries.
     pub fn has_store(&self) -> bool {
         self.form == Some(Form::Store)
     }
@@ -111,20 +113,16 @@ impl JournalFile {
     /// The next thing that stands there; none behind the last. What the file's server adds from its opening on may be left out.
     /// Where it puts its store in the place of all entries meanwhile, that is `Changed`.
     pub fn next(&mut self) -> Result<Option<Kept>, JournalFileError> {
-        while let Some(piece) = self.next_piece()? {
-            match self.form {
-                Some(Form::Store) if piece.is_empty() => self.form = Some(Form::Entries),
-                Some(form) => {
-                    let bytes = unstuffed(&piece).ok_or_else(|| self.damaged())?;
-                    return Ok(Some(if form == Form::Store { Kept::Chunk(bytes) } else { Kept::Entry(bytes) }));
-                }
-                None => return Err(self.damaged()),
-            }
+        let Some(piece) = self.next_piece()? else {
+            // A store has an end.
+            return if self.form == Some(Form::Store) { Err(self.damaged()) } else { Ok(None) };
+        };
+        if self.form == Some(Form::Store) && piece.is_empty() {
+            self.form = Some(Form::Entries);
+            return Ok(Some(Kept::EndOfStore));
         }
-        match self.form {
-            Some(Form::Store) => Err(self.damaged()),
-            _ => Ok(None),
-        }
+        let bytes = unstuffed(&piece).ok_or_else(|| self.damaged())?;
+        Ok(Some(if self.form == Some(Form::Store) { Kept::Chunk(bytes) } else { Kept::Entry(bytes) }))
     }
 
     /// That what was told last, or what is next, is none: it says where the record begins that has it.

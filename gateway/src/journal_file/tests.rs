@@ -98,6 +98,7 @@ fn rest(journal: &mut JournalFile, words: &mut Vec<String>) -> Result<(), Journa
     while let Some(kept) = journal.next()? {
         words.push(match kept {
             Kept::Entry(bytes) => format!("{:?}", String::from_utf8_lossy(&bytes)),
+            Kept::EndOfStore => "end".into(),
             Kept::Chunk(bytes) => format!("chunk {:?}", String::from_utf8_lossy(&bytes)),
         });
     }
@@ -146,7 +147,7 @@ fn entries_are_read_region_by_region_and_those_behind_a_store_too() {
     );
     made.put(SECOND, &frame(&piece(b"one")));
     assert!(made.open().unwrap().has_store());
-    assert_eq!(made.read(), format!("chunk \"chunk\", chunk {:?}, \"one\"", String::from_utf8_lossy(&zeros)));
+    assert_eq!(made.read(), format!("chunk \"chunk\", chunk {:?}, end, \"one\"", String::from_utf8_lossy(&zeros)));
 }
 
 #[test]

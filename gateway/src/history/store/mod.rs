@@ -1,6 +1,7 @@
 //! A store as the rules have it behind the requests so far (`docs/QUEUES.md`). They leave it no choice, so each answer is compared
 //! with the one that they have.
 
+mod loading;
 mod queue;
 #[cfg(test)]
 mod tests;
@@ -13,6 +14,7 @@ use super::finding::{Finding, Judged, Rule};
 use super::line::{bare, Line, Members};
 use super::stored::{Ask, Request, Told, NO_QUEUE, OTHER_ATTRIBUTES, REMOVED_LATELY, STALE};
 use crate::lines::StoreReply;
+pub use loading::Loading;
 use queue::Queue;
 
 /// So long the name of a removed queue isn't free, in milliseconds.
@@ -28,10 +30,10 @@ pub struct Store {
     names: HashMap<String, Name>,
 }
 
-/// The largest number of a client, and the reply to it.
+/// The largest number of a client, and the reply to it. None: that isn't known.
 struct Last {
     number: u64,
-    reply: Reply,
+    reply: Option<Reply>,
 }
 
 #[derive(Clone)]
@@ -53,7 +55,7 @@ impl Store {
     /// What the rules say of the answer in a line, which is to this request. Behind one that they don't allow this is of no use any
     /// more.
     pub fn judge(&mut self, line: &Line, request: &Request) -> Result<Judged, Finding> {
-        let (Reply { reply, incarnation }, rule) = self.reply(request, line.at);
+        let Some((Reply { reply, incarnation }, rule)) = self.reply(request, line.at) else { return Ok(Judged::Not) };
         // It replies to requests alone, with receipts of its own.
         let wanted = request.told(incarnation, &reply).unwrap_or_else(|| Ok(Map::new()));
         let told = line.told().cloned();
@@ -64,17 +66,17 @@ impl Store {
         Err(Finding { told: format!("it {told}"), allowed: format!("the rules {wanted}"), rule })
     }
 
-    /// The reply to a request at this moment, and the rule that says so.
-    fn reply(&mut self, request: &Request, now: u64) -> (Reply, Rule) {
+    /// The reply to a request at this moment, and the rule that says so. None: it repeats one whose reply isn't known.
+    fn reply(&mut self, request: &Request, now: u64) -> Option<(Reply, Rule)> {
         match self.clients.get(&request.client) {
-            Some(last) if last.number == request.number => (last.reply.clone(), Rule::Repeats),
+            Some(last) if last.number == request.number => Some((last.reply.clone()?, Rule::Repeats)),
             Some(last) if last.number > request.number => {
-                (Reply { reply: StoreReply::Refused(STALE), incarnation: 0 }, Rule::Repeats)
+                Some((Reply { reply: StoreReply::Refused(STALE), incarnation: 0 }, Rule::Repeats))
             }
             _ => {
                 let (reply, rule) = self.effect(request, now);
-                self.clients.insert(request.client, Last { number: request.number, reply: reply.clone() });
-                (reply, rule)
+                self.clients.insert(request.client, Last { number: request.number, reply: Some(reply.clone()) });
+                Some((reply, rule))
             }
         }
     }

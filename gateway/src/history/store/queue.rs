@@ -5,6 +5,7 @@ use std::rc::Rc;
 
 use crate::history::stored::{Receipt, BAD_RECEIPT, BEYOND_LIMIT, NOT_IN_FLIGHT, NO_ID};
 use crate::lines::{StoreMessage, StoreReply};
+use crate::store_bytes::QueuePart;
 use crate::texts::DedupId;
 
 /// A send with the id of an earlier one adds nothing for so long, in milliseconds.
@@ -42,6 +43,14 @@ struct Message {
     until: u64,
 }
 
+/// What a message has that is loaded, beside its group.
+pub struct Loaded<'a> {
+    pub body: &'a str,
+    pub handings: u64,
+    pub handed: u64,
+    pub until: u64,
+}
+
 /// The messages of a group that aren't deleted, in order. Those that were handed out come first.
 #[derive(Default)]
 struct Group {
@@ -67,6 +76,30 @@ impl Queue {
         }
     }
 
+    /// One that is loaded: its messages and accepted sends follow.
+    pub fn of(part: &QueuePart) -> Queue {
+        Queue { sent: part.sent, ..Queue::new(part.incarnation, part.timeout, part.makes_ids) }
+    }
+
+    /// Takes up a message behind those that it has, at this moment.
+    pub fn load(&mut self, sequence: u64, group: &str, message: Loaded<'_>, now: u64) {
+        let Loaded { body, handings, handed, until } = message;
+        self.add(sequence, group, |group| Message { group, body: body.into(), handings, handed, until }, now);
+    }
+
+    /// Remembers the id of a send that was accepted at this moment.
+    pub fn accept(&mut self, id: Rc<str>, at: u64, sequence: u64) {
+        self.accepted.insert(id.clone(), (at, sequence));
+        self.ids.push_back(id);
+    }
+
+    fn add(&mut self, sequence: u64, group: &str, message: impl FnOnce(Rc<str>) -> Message, now: u64) {
+        let group: Rc<str> = self.groups.get_key_value(group).map_or_else(|| group.into(), |(known, _)| known.clone());
+        self.groups.entry(group.clone()).or_default().messages.push_back(sequence);
+        self.messages.insert(sequence, message(group.clone()));
+        self.place(&group, now);
+    }
+
     pub fn has(&self, timeout: u32, makes_ids: bool) -> bool {
         (self.timeout, self.makes_ids) == (timeout, makes_ids)
     }
@@ -82,13 +115,9 @@ impl Queue {
             return StoreReply::Sent(*first);
         }
         self.sent += 1;
-        self.accepted.insert(id.clone(), (now, self.sent));
-        self.ids.push_back(id);
-        let group: Rc<str> = self.groups.get_key_value(group).map_or_else(|| group.into(), |(known, _)| known.clone());
-        self.groups.entry(group.clone()).or_default().messages.push_back(self.sent);
-        let message = Message { group: group.clone(), body: body.into(), handings: 0, handed: 0, until: 0 };
-        self.messages.insert(self.sent, message);
-        self.place(&group, now);
+        self.accept(id, now, self.sent);
+        let message = |group| Message { group, body: body.into(), handings: 0, handed: 0, until: 0 };
+        self.add(self.sent, group, message, now);
         StoreReply::Sent(self.sent)
     }
 

@@ -6,7 +6,7 @@ use serde_json::{json, Value};
 use super::super::stored::Receipt;
 use super::super::{check, Told};
 use super::*;
-use crate::history::line::OfStore;
+use crate::history::stored::line_of_chunk;
 use crate::lines::{AskFields, AskKind, StoreMessage};
 use crate::queues::ask::StoreName;
 use crate::seeded;
@@ -353,14 +353,21 @@ fn words(reply: &StoreReply) -> Value {
     }
 }
 
+/// A store that is made of another one's bytes.
+fn loaded(other: &StoreByRules, number: u64) -> Store {
+    let mut loading = Loading::default();
+    other.bytes(3, number).iter().for_each(|chunk| loading.feed(chunk).unwrap());
+    loading.end().unwrap()
+}
+
 /// The other store knows one incarnation of a receipt's queue alone, so a name is made once here.
 #[test]
-fn replies_are_those_of_another_store_by_the_rules() {
-    seeded::check(2_000, steps(), |steps| {
+fn replies_are_those_of_another_store_by_the_rules_also_where_one_begins_with_its_bytes() {
+    seeded::check(2_000, (steps(), 0usize..60), |(steps, cut)| {
         let (mut store, mut other, mut now) = (Store::default(), StoreByRules::default(), 1_000);
         let mut removed = std::collections::HashSet::new();
-        for (number, (queue, ask, step)) in steps.into_iter().enumerate() {
-            let name = StoreName(queue).text();
+        for (place, (queue, ask, step)) in steps.into_iter().enumerate() {
+            let (name, number) = (StoreName(queue).text(), place as u64);
             if removed.contains(&queue) && matches!(ask, Ask::Create { .. }) {
                 continue;
             }
@@ -368,14 +375,65 @@ fn replies_are_those_of_another_store_by_the_rules() {
                 removed.insert(queue);
             }
             now += step;
-            let expected = other.reply(&fields(&name, &ask), now);
-            let request = Request { client: 1, number: number as u64, queue: name, ask };
-            let (Reply { reply, .. }, _) = store.reply(&request, now);
+            let request = Request { client: 1, number: number + 1, queue: name, ask };
+            if place == cut {
+                store = loaded(&other, number);
+                let repeat = Request { number, ..request.clone() };
+                prop_assert!(store.reply(&repeat, now).is_none(), "what it was answered isn't known");
+            }
+            let expected = other.reply(&fields(&request.queue, &request.ask), now);
+            let (Reply { reply, .. }, _) = store.reply(&request, now).unwrap();
             prop_assert_eq!(words(&reply), expected, "{:?} at {}", request, now);
             let told = request.told(1, &reply).unwrap();
             let line = request.line(1, now, told);
-            prop_assert_eq!(Request::of(&line, OfStore { file: 1, client: 1, number: number as u64 }), Ok(request));
+            prop_assert_eq!(Request::of(&line, line.store.unwrap()), Ok(request));
         }
         Ok(())
     });
+}
+
+#[test]
+fn a_history_may_begin_with_a_store_which_is_not_judged() {
+    let (mut other, name) = (StoreByRules::default(), StoreName(1).text());
+    other.reply(&fields(&name, &Ask::Create { timeout: 30, makes_ids: false }), 500);
+    for id in ["a", "b"] {
+        let send = Ask::Send { group: "g".into(), dedup: Some(id.into()), body: id.into() };
+        other.reply(&fields(&name, &send), 600);
+    }
+    other.reply(&fields(&name, &Ask::Receive { size: 1, timeout: None }), 700);
+    let begin = || {
+        let mut history = History { at: 700, ..History::default() };
+        let chunks = other.bytes(2, 3);
+        assert!(chunks.len() > 2);
+        history.lines =
+            chunks.iter().map(|chunk| serde_json::to_value(line_of_chunk(1, 700, chunk)).unwrap()).collect();
+        // Numbers of requests are above these.
+        assert!(history.lines.len() > 3);
+        history
+    };
+    let loads = begin().lines.len() as u64;
+    let mut history = begin();
+    history.send("a", "g", 1).after(29_999).receive(1, &[]).after(1).receive(1, &[("1-1-2", "a", "g")]);
+    let (told, said) = history.told();
+    assert_eq!((told.is_refuted, told.allowed, told.not_judged), (false, 3, loads), "{said}");
+    begin().send("a", "g", 3).is_refuted("the rules tell MessageId \"1-1\"");
+    begin().receive(1, &[("1-2-1", "b", "g")]).is_refuted("hand nothing there");
+    begin().after(30_000).receive(1, &[("1-1-1", "a", "g")]).is_refuted("\"ApproximateReceiveCount\":\"2\"");
+
+    let error = |history: &History| {
+        let text: String = history.lines.iter().map(|line| format!("{line}\n")).collect();
+        check(text.as_bytes(), &mut Vec::new()).unwrap_err().to_string()
+    };
+    let mut late = begin();
+    late.send("a", "g", 1).lines.push(begin().lines[0].clone());
+    assert!(error(&late).ends_with("its store was asked something before"), "{}", error(&late));
+    let mut cut = begin();
+    cut.lines.pop();
+    assert!(error(cut.send("a", "g", 1)).ends_with("what was loaded before isn't whole: 91 Truncated"));
+    let mut swapped = begin();
+    swapped.lines.swap(0, 1);
+    assert!(error(&swapped).contains("its chunk is none that comes next"));
+    let mut spoilt = begin();
+    spoilt.lines[0]["request"]["Chunk"] = "?".into();
+    assert!(error(&spoilt).ends_with("its Chunk is none of a store's"));
 }
