@@ -10,26 +10,28 @@ from pathlib import Path
 from started import gateway_program
 
 
-def make(*words: str) -> subprocess.CompletedProcess:
-    """hobbychair cluster certificates."""
-    return subprocess.run([gateway_program(), "cluster", "certificates", *words], capture_output=True, text=True, timeout=30)
+def make(*words: str, **variables: str) -> subprocess.CompletedProcess:
+    """hobbychair cluster certificates, with what is said in variables of the environment."""
+    return subprocess.run([gateway_program(), "cluster", "certificates", *words], env={**os.environ, **variables}, capture_output=True,
+                          text=True, timeout=30)
 
 
 class Certificates:
     """An authority, and certificates that it has signed for a cluster."""
 
-    def __init__(self, folder: Path, cluster: str) -> None:
-        self.folder, self.cluster = folder, cluster
+    def __init__(self, folder: Path, cluster: str, **variables: str) -> None:
+        """`variables` are those of the environment in which they are made."""
+        self.folder, self.cluster, self.variables = folder, cluster, variables
         self.make()
 
     def make(self, *words: str) -> None:
-        made = make("--cluster", self.cluster, "--folder", str(self.folder), *words)
+        made = make("--cluster", self.cluster, "--folder", str(self.folder), *words, **self.variables)
         assert made.returncode == 0, made.stderr
 
-    def has(self, role: str, name: str) -> str:
+    def has(self, role: str, name: str, address: str = "127.0.0.1") -> str:
         """Makes a certificate of that name, if there is none, and tells the name."""
         if not self.file(f"{name}.pem").exists():
-            self.make("--role", role, "--name", name, "--address", "127.0.0.1")
+            self.make("--role", role, "--name", name, "--address", address)
         return name
 
     def file(self, name: str) -> Path:
@@ -40,9 +42,10 @@ class Certificates:
         return ["--certificate", str(self.file(f"{name}.pem")), "--key", str(self.file(f"{name}.key")),
                 "--authority", str(self.file("authority.pem"))]
 
-    def words_of_etcd(self) -> list[str]:
-        self.has("etcd", "etcd")
-        return ["--cert-file", str(self.file("etcd.pem")), "--key-file", str(self.file("etcd.key")),
+    def words_of_etcd(self, address: str = "127.0.0.1") -> list[str]:
+        """What a member is told that is found there."""
+        name = self.has("etcd", f"etcd-{address}", address)
+        return ["--cert-file", str(self.file(f"{name}.pem")), "--key-file", str(self.file(f"{name}.key")),
                 "--trusted-ca-file", str(self.file("authority.pem")), "--client-cert-auth"]
 
     def client(self, name: str | None) -> ssl.SSLContext:

@@ -4,20 +4,21 @@ from __future__ import annotations
 
 import json
 import os
-import shutil
+import socket
 import subprocess
 import tempfile
+import threading
 from collections.abc import Iterator
 from pathlib import Path
 
 import pytest
 
 from certificates import Certificates
+from cluster_network import Network, Rules, run, why_not
 from clusters import NAME, has_etcd, wait
 from started import gateway_program, program
 
-ETCD = "10.213.0.10"
-FRONT = "10.213.0.20"
+ETCD, FRONT = 10, 20
 
 # What a client does beside the front: it sends messages, and receives and deletes as many as come.
 CLIENT = """
@@ -36,92 +37,30 @@ for _ in range(int(sys.argv[2])):
 """
 
 
-def machine(server: int) -> str:
-    return f"10.213.0.{server}"
-
-
-def run(*words: str, **more) -> subprocess.CompletedProcess:
-    return subprocess.run(words, capture_output=True, text=True, timeout=60, **more)
-
-
-class Network:
-    """Machines with addresses, and a switch between them. Nothing outside knows of it."""
-
-    def __init__(self, addresses: list[str]) -> None:
-        self.prefix = f"hobbychair-{os.getpid()}"
-        self.names = {address: f"{self.prefix}-{address.rsplit('.', 1)[1]}" for address in addresses}
-        self.switch = f"{self.prefix}-switch"
-
-    def begin(self) -> None:
-        self.ip("netns", "add", self.switch)
-        self.ip("-n", self.switch, "link", "add", "bridge", "type", "bridge")
-        self.ip("-n", self.switch, "link", "set", "bridge", "up")
-        for address, name in self.names.items():
-            self.ip("netns", "add", name)
-            port = f"port{address.rsplit('.', 1)[1]}"
-            self.ip("-n", self.switch, "link", "add", port, "type", "veth", "peer", "name", "net", "netns", name)
-            self.ip("-n", self.switch, "link", "set", port, "master", "bridge", "up")
-            self.ip("-n", name, "address", "add", f"{address}/24", "dev", "net")
-            for device in ("lo", "net"):
-                self.ip("-n", name, "link", "set", device, "up")
-
-    @staticmethod
-    def ip(*words: str) -> None:
-        done = run("ip", *words)
-        assert done.returncode == 0, (words, done.stderr)
-
-    def at(self, address: str, *words: str) -> list[str]:
-        """The words that run a command on that machine."""
-        return ["ip", "netns", "exec", self.names[address], *words]
-
-    def cut(self, address: str) -> None:
-        """Nobody reaches the machine any more."""
-        self.ip("-n", self.names[address], "link", "set", "net", "down")
-
-    def end(self) -> None:
-        for name in (*self.names.values(), self.switch):
-            run("ip", "netns", "del", name)
-
-
-def why_not() -> str | None:
-    """Why there can be no machines, if there can't."""
-    if not has_etcd():
-        return "etcd isn't there: Debian's etcd-server has it"
-    if shutil.which("ip") is None:
-        return "ip isn't there: Debian's iproute2 has it"
-    if os.geteuid() != 0:
-        return "only root makes namespaces of the network"
-    name = f"hobbychair-{os.getpid()}-tried"
-    at = ["ip", "netns", "exec", name, "ip", "link", "add", "name"]
-    tries = [["ip", "netns", "add", name], [*at, "one", "type", "veth", "peer", "name", "two"], [*at, "three", "type", "bridge"]]
-    failed = next((done for done in map(lambda words: run(*words), tries) if done.returncode != 0), None)
-    run("ip", "netns", "del", name)
-    return f"no namespaces of the network can be made here: {failed.stderr.strip()}" if failed else None
-
-
 class Machines:
     """Etcd, a candidate, three nodes and a front, each on a machine of its own but for the candidate."""
 
     def __init__(self, room: Path) -> None:
         self.room, self.processes = room, []
-        self.network = Network([ETCD, FRONT, *map(machine, (1, 2, 3))])
+        self.network = Network([ETCD, FRONT, 1, 2, 3])
         self.data = tempfile.TemporaryDirectory(dir="/dev/shm" if os.access("/dev/shm", os.W_OK) else None)
         self.certificates = Certificates(room / "certificates", NAME)
-        self.etcd = ["--cluster", NAME, "--etcd", f"https://{ETCD}:2379"]
+        self.etcd = ["--cluster", NAME, "--etcd", f"https://{Network.address(ETCD)}:2379"]
 
     def begin(self) -> None:
         self.network.begin()
-        self.certificates.make("--role", "etcd", "--address", ETCD)
         url = self.etcd[-1]
         peer = "http://127.0.0.1:2380"
         self.start(ETCD, "etcd", "etcd", "--name", "one", "--data-dir", self.data.name, "--listen-client-urls", url,
                    "--advertise-client-urls", url, "--listen-peer-urls", peer, "--initial-advertise-peer-urls", peer,
-                   "--initial-cluster", f"one={peer}", "--logger", "zap", "--log-level", "error", *self.certificates.words_of_etcd())
+                   "--initial-cluster", f"one={peer}", "--logger", "zap", "--log-level", "error",
+                   *self.certificates.words_of_etcd(Network.address(ETCD)))
         wait(20, lambda: self.ask("create", "--nodes", "3").returncode == 0, "etcd doesn't begin")
         for server in (1, 2, 3):
-            self.start(machine(server), f"node{server}", gateway_program(), "node", *self.which("node", f"node{server}"),
-                       "--first", str(server), "--listen", "0.0.0.0:7001", "--advertise", f"{machine(server)}:7001",
-                       "--gateway", "0.0.0.0:9001", "--advertise-gateway", f"{machine(server)}:9001")
+            address = Network.address(server)
+            self.start(server, f"node{server}", gateway_program(), "node", *self.which("node", f"node{server}"),
+                       "--first", str(server), "--listen", "0.0.0.0:7001", "--advertise", f"{address}:7001",
+                       "--gateway", "0.0.0.0:9001", "--advertise-gateway", f"{address}:9001")
         self.start(ETCD, "master", gateway_program(), "master", *self.which("master", "master"))
         self.start(FRONT, "front", gateway_program(), "serve", *self.which("front", "front"), "--port", "9324")
         wait(20, lambda: "listening on" in (self.room / "front.log").read_text(), "the front doesn't begin")
@@ -129,10 +68,10 @@ class Machines:
     def which(self, role: str, name: str) -> list[str]:
         return self.etcd + self.certificates.words(self.certificates.has(role, name))
 
-    def start(self, address: str, name: str, *words: str) -> None:
+    def start(self, machine: int, name: str, *words: str) -> None:
         with open(self.room / f"{name}.log", "ab") as out:
             environment = {**os.environ, "HOBBYCHAIR_CQ": program()}
-            self.processes.append(subprocess.Popen(self.network.at(address, *words), env=environment,
+            self.processes.append(subprocess.Popen(self.network.at(machine, *words), env=environment,
                                                    stdin=subprocess.DEVNULL, stdout=out, stderr=out))
 
     def ask(self, command: str, *words: str) -> subprocess.CompletedProcess:
@@ -161,7 +100,7 @@ class Machines:
 
 @pytest.fixture
 def machines(tmp_path) -> Iterator[Machines]:
-    reason = why_not()
+    reason = why_not() if has_etcd() else "etcd isn't there: Debian's etcd-server has it"
     if reason:
         pytest.skip(reason)
     one = Machines(tmp_path)
@@ -179,6 +118,112 @@ def machines(tmp_path) -> Iterator[Machines]:
 def test_a_cluster_on_machines_of_their_own_serves_and_loses_one(machines):
     wait(20, lambda: machines.gateway_acts_at(1), "no gateway acts")
     first = machines.client(1, "a", "b", "c")
-    machines.network.cut(machine(1))
+    machines.network.unplug(1)
     wait(30, lambda: machines.gateway_acts_at(2), "the next one doesn't act")
     assert sorted(first + machines.client(3, "d")) == ["a", "b", "c", "d"]
+
+
+# ---- the machines themselves
+
+
+@pytest.fixture
+def network() -> Iterator[Network]:
+    reason = why_not(("ip", "nsenter", "iptables"))
+    if reason:
+        pytest.skip(reason)
+    one = Network([1, 2, 3])
+    try:
+        one.begin()
+        yield one
+    finally:
+        one.end()
+
+
+class Echo:
+    """Says on a machine what it hears there, by connections that others of this test make."""
+
+    def __init__(self, network: Network, machine: int) -> None:
+        self.network, self.machine, self.heard = network, machine, 0
+        with network.entered(machine):
+            self.listener = socket.create_server(("0.0.0.0", 7001))
+        threading.Thread(target=self.accept, daemon=True).start()
+
+    def accept(self) -> None:
+        while True:
+            try:
+                connection, _ = self.listener.accept()
+            except OSError:
+                return
+            threading.Thread(target=self.echo, args=(connection,), daemon=True).start()
+
+    def echo(self, connection: socket.socket) -> None:
+        while data := connection.recv(1000):
+            self.heard += len(data)
+            connection.sendall(data)
+
+    def connection(self, machine: int) -> socket.socket:
+        """From that machine."""
+        with self.network.entered(machine):
+            connection = socket.create_connection((self.network.address(self.machine), 7001), timeout=5)
+        assert is_carried(connection)
+        return connection
+
+
+def is_carried(connection: socket.socket, patience: float = 5) -> bool:
+    connection.settimeout(patience)
+    try:
+        connection.sendall(b"x")
+        return connection.recv(1) == b"x"
+    except TimeoutError:
+        return False
+
+
+CUTS = {
+    "what comes is lost": ([("INPUT", "--source", "10.213.0.1")], 0),
+    "what is said is lost": ([("OUTPUT", "--destination", "10.213.0.1")], 1),
+    "both are lost": ([("INPUT", "--source", "10.213.0.1"), ("OUTPUT", "--destination", "10.213.0.1")], 0),
+    "all is lost": ([("INPUT", "--match", "statistic", "--mode", "random", "--probability", "1")], 0),
+}
+
+
+@pytest.mark.parametrize("cut", CUTS)
+def test_a_cut_carries_nothing_one_way_or_both_and_others_are_reached(network, cut):
+    echo = Echo(network, 2)
+    one, other = echo.connection(1), echo.connection(3)
+    rules, heard = CUTS[cut]
+    rules = Rules(network, 2, rules)
+    before = echo.heard
+    assert rules.begins()
+    try:
+        assert not is_carried(one, 0.5)
+        assert echo.heard == before + heard
+        if cut != "all is lost":
+            assert is_carried(other)
+    finally:
+        assert rules.ends() > 0
+    # What was said meanwhile comes now, and what is said from now on.
+    one.settimeout(20)
+    assert one.recv(1) == b"x" and is_carried(one)
+    echo.listener.close()
+
+
+def test_of_the_packets_a_part_is_lost(network):
+    echo = Echo(network, 2)
+    one = echo.connection(1)
+    part = ("--match", "statistic", "--mode", "random", "--probability", "0.3")
+    rules = Rules(network, 2, [("INPUT", "--in-interface", "net", *part)])
+    assert rules.begins()
+    carried = [is_carried(one, 30) for _ in range(20)]
+    assert rules.ends() > 0 and all(carried)
+    echo.listener.close()
+
+
+def test_nothing_stays_of_a_network(network):
+    names = [*network.names.values(), network.switch]
+    assert all(Path("/run/netns", name).exists() for name in names)
+    here = os.readlink("/proc/thread-self/ns/net")
+    with network.entered(1):
+        assert os.readlink("/proc/thread-self/ns/net") != here
+    assert os.readlink("/proc/thread-self/ns/net") == here
+    network.end()
+    assert not any(Path("/run/netns", name).exists() for name in names)
