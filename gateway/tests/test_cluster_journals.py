@@ -4,7 +4,6 @@ from __future__ import annotations
 
 import json
 import os
-import subprocess
 import time
 from pathlib import Path
 
@@ -14,6 +13,7 @@ from cluster_journals import Journal, check_journals, folder_of, kill_all
 from cluster_oracle import Run, check
 from cluster_users import Users
 from clusters import NAME, Cluster, has_etcd, run, wait
+from preloaded import built
 from test_cluster import answered, start  # noqa: F401
 
 pytestmark = pytest.mark.skipif(not has_etcd(), reason="etcd isn't there: Debian's etcd-server has it")
@@ -116,10 +116,8 @@ def test_the_last_full_server_waits_for_room_on_its_disk(small_disk, start):
 @pytest.fixture
 def hanging(tmp_path, monkeypatch) -> None:
     """Syncs of files wait for as long as a file `hang` is beside them."""
-    library = tmp_path / "libhang.so"
-    source = Path(__file__).with_name("hanging_disk.rs")
-    compiled = subprocess.run(["rustc", "-O", "--crate-type", "cdylib", "-o", library, source], capture_output=True)
-    assert compiled.returncode == 0, compiled.stderr
+    library = built("hanging_disk.rs", tmp_path)
+    assert library is not None, "rustc doesn't build it"
     monkeypatch.setenv("LD_PRELOAD", str(library))
 
 
