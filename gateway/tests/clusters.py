@@ -3,6 +3,8 @@
 from __future__ import annotations
 
 import base64
+import contextlib
+import http.client
 import itertools
 import json
 import os
@@ -15,13 +17,18 @@ import threading
 import time
 import urllib.request
 from collections.abc import Callable
+from dataclasses import dataclass
 from pathlib import Path
 from typing import Any
 
 from certificates import Certificates
+from cluster_network import Loopback, Network
 from started import gateway_program, program
 
 NAME = "tested"
+
+# Where processes listen that have a machine of their own.
+CLIENTS_OF_ETCD, PEERS_OF_ETCD, NODES, GATEWAYS = 2379, 2380, 7001, 9000
 
 
 def has_etcd() -> bool:
@@ -54,17 +61,27 @@ def run(*words: str, timeout: float = 30) -> subprocess.CompletedProcess:
 class Etcd:
     """One etcd, of one member or of three."""
 
-    def __init__(self, room: Path, members: int = 1, certificates: Certificates | None = None) -> None:
-        self.room, self.certificates = room, certificates
+    def __init__(self, room: Path, members: int = 1, certificates: Certificates | None = None,
+                 network: Network | Loopback = Loopback(), machines: list[int] | None = None) -> None:
+        """`machines`: on which one each member is, where there are some."""
+        self.room, self.certificates, self.network = room, certificates, network
+        self.machines = machines or list(range(1, members + 1))
+        self.answered_last = 0
         # What tests show it.
         self.context = certificates.client(certificates.has("master", "master")) if certificates else None
         # Where there is memory for it, other work on the disk holds nothing up.
         self.data = tempfile.TemporaryDirectory(dir="/dev/shm" if os.access("/dev/shm", os.W_OK) else None)
-        ports = free_ports(2 * members)
-        self.urls = [f"http{'s' if certificates else ''}://127.0.0.1:{port}" for port in ports[:members]]
-        self.peers = [f"http://127.0.0.1:{port}" for port in ports[members:]]
+        ports = [CLIENTS_OF_ETCD] * members + [PEERS_OF_ETCD] * members if network.has_machines else free_ports(2 * members)
+        addresses = [network.address(machine) for machine in self.machines]
+        scheme = "https" if certificates else "http"
+        self.urls = [f"{scheme}://{address}:{port}" for address, port in zip(addresses, ports[:members])]
+        self.peers = [f"http://{address}:{port}" for address, port in zip(addresses, ports[members:])]
         self.processes = [self.start(place) for place in range(members)]
-        wait(20, self.answers, "etcd doesn't begin")
+        try:
+            wait(20, self.answers, "etcd doesn't begin")
+        except BaseException:
+            self.end()
+            raise
 
     def start(self, place: int) -> subprocess.Popen:
         cluster = ",".join(f"m{one}={peer}" for one, peer in enumerate(self.peers))
@@ -72,20 +89,24 @@ class Etcd:
                  "--listen-client-urls", self.urls[place], "--advertise-client-urls", self.urls[place],
                  "--listen-peer-urls", self.peers[place], "--initial-advertise-peer-urls", self.peers[place],
                  "--initial-cluster", cluster, "--logger", "zap", "--log-level", "error"]
-        words += self.certificates.words_of_etcd() if self.certificates else []
+        machine = self.machines[place]
+        words += self.certificates.words_of_etcd(self.network.address(machine)) if self.certificates else []
         with open(self.room / f"etcd{place}.log", "ab") as log:
-            return subprocess.Popen(words, stdin=subprocess.DEVNULL, stdout=log, stderr=log)
+            return subprocess.Popen(self.network.at(machine, *words), stdin=subprocess.DEVNULL, stdout=log, stderr=log)
 
     def ask(self, path: str, body: dict[str, Any], patience: float = 0.7) -> dict[str, Any]:
-        """The answer of the first member that gives one."""
+        """The answer of the first member that gives one, from the one on that gave the last one."""
         data = json.dumps(body).encode()
-        for url in self.urls:
+        first = self.answered_last
+        for place in (*range(first, len(self.urls)), *range(first)):
             try:
-                request = urllib.request.Request(url + path, data, {"Content-Type": "application/json"})
+                request = urllib.request.Request(self.urls[place] + path, data, {"Content-Type": "application/json"})
                 with urllib.request.urlopen(request, timeout=patience, context=self.context) as answer:
-                    return json.load(answer)
-            except OSError:
+                    told = json.load(answer)
+            except (OSError, http.client.HTTPException):
                 continue
+            self.answered_last = place
+            return told
         raise ConnectionError("no member of etcd answers")
 
     def answers(self) -> bool:
@@ -127,6 +148,36 @@ class Etcd:
         for place, process in enumerate(self.processes):
             if places is None or place in places:
                 process.send_signal(number)
+
+    def kill(self, places: list[int] | None = None) -> None:
+        """What they wrote is there still."""
+        self.signal(signal.SIGKILL, places)
+        for place, process in enumerate(self.processes):
+            if places is None or place in places:
+                process.wait()
+
+    def begin_again(self, places: list[int] | None = None) -> None:
+        """Members that were killed go on with what they wrote."""
+        for place, process in enumerate(self.processes):
+            if (places is None or place in places) and process.poll() is not None:
+                self.processes[place] = self.start(place)
+
+    def copy(self) -> None:
+        """Keeps a copy of what all members wrote, which have ended."""
+        copied = Path(self.data.name) / "copy"
+        shutil.rmtree(copied, ignore_errors=True)
+        copied.mkdir()
+        self._copy([Path(self.data.name) / str(place) for place in range(len(self.urls))], copied)
+
+    def put_back(self) -> None:
+        """All members, which have ended, have what the last copy has."""
+        for place in range(len(self.urls)):
+            shutil.rmtree(Path(self.data.name) / str(place))
+        self._copy(sorted((Path(self.data.name) / "copy").iterdir()), Path(self.data.name))
+
+    @staticmethod
+    def _copy(folders: list[Path], goal: Path) -> None:
+        subprocess.run(["cp", "--archive", "--sparse=always", *map(str, folders), str(goal)], check=True)
 
     def end(self) -> None:
         for process in self.processes:
@@ -238,7 +289,7 @@ class WallClock:
         new.replace(self.file)
 
     def environment(self) -> dict[str, str]:
-        return {"LD_PRELOAD": str(FAKETIME), "FAKETIME_TIMESTAMP_FILE": str(self.file), "FAKETIME_NO_CACHE": "1",
+        return {"FAKETIME_TIMESTAMP_FILE": str(self.file), "FAKETIME_NO_CACHE": "1",
                 "FAKETIME_DONT_FAKE_MONOTONIC": "1", "DONT_FAKE_MONOTONIC": "1"}
 
 
@@ -248,14 +299,18 @@ class Node:
     def __init__(self, process: subprocess.Popen, log: Path, trace: Path, proxy: Proxies | None) -> None:
         self.process, self.log, self.trace, self.proxy = process, log, trace, proxy
         self.server = 0
+        # It was started as that one, on that machine.
+        self.number, self.machine = 0, 0
         self.port = 0
         self.gateway_port = 0
         self.may_fail = False
         self.clock: WallClock | None = None
+        # How many asks its gateway asks yet (`ended_between_asks.rs`).
+        self.asks = log.with_suffix(".asks")
 
     def look(self) -> bool:
         """Whether it has said who it is."""
-        for line in self.log.read_text().splitlines():
+        for line in self.log.read_text().splitlines() if self.server == 0 else ():
             if line.startswith("server ") and " listens on " in line:
                 words = line.split()
                 self.server, self.port = int(words[1]), int(words[-1].rsplit(":", 1)[1])
@@ -267,12 +322,11 @@ class Node:
 
     def children(self) -> list[int]:
         """The processes that it started."""
-        threads = Path(f"/proc/{self.process.pid}/task").glob("*/children")
-        return [int(child) for one in threads for child in one.read_text().split()]
+        return children_of(self.process.pid)
 
-    def child(self) -> int:
-        """The process of its server."""
-        return next(child for child in self.children() if not is_gateway(child))
+    def child(self) -> int | None:
+        """The process of its server, as long as there is one."""
+        return next((child for child in self.children() if not is_gateway(child)), None)
 
     def gateway(self) -> int | None:
         """The process of its gateway, if there is one."""
@@ -280,15 +334,34 @@ class Node:
 
     def stop(self) -> None:
         """Server and gateway are stopped, too, as on a machine that stands still."""
-        for one in (self.process.pid, *self.children()):
-            os.kill(one, signal.SIGSTOP)
+        for one in (self.process.pid, *self.children()) if self.lives() else ():
+            send(one, signal.SIGSTOP)
 
     def go_on(self) -> None:
         for one in (*self.children(), self.process.pid):
-            os.kill(one, signal.SIGCONT)
+            send(one, signal.SIGCONT)
+
+    def kill(self) -> None:
+        self.process.kill()
+        self.process.wait()
 
     def lives(self) -> bool:
         return self.process.poll() is None
+
+
+def children_of(process: int) -> list[int]:
+    """Those that its threads started, as far as these haven't ended."""
+    children: list[int] = []
+    for thread in Path(f"/proc/{process}/task").glob("*/children"):
+        with contextlib.suppress(FileNotFoundError, ProcessLookupError):
+            children += map(int, thread.read_text().split())
+    return children
+
+
+def send(process: int, number: int) -> None:
+    """Sends a signal to a process that may have ended."""
+    with contextlib.suppress(ProcessLookupError):
+        os.kill(process, number)
 
 
 def is_gateway(process: int) -> bool:
@@ -298,29 +371,62 @@ def is_gateway(process: int) -> bool:
         return False
 
 
+@dataclass(frozen=True)
+class Layout:
+    """On which machine each process is."""
+
+    # The first machines have a node, a member of etcd, a candidate and a front each; otherwise each node has one for itself.
+    is_together: bool = True
+
+    @staticmethod
+    def of_nodes() -> range:
+        """Where a node may be. A chain has at most eight members, and others wait."""
+        return range(1, 11)
+
+    def of_etcd(self, place: int) -> int:
+        return place + 1 if self.is_together else 21 + place
+
+    def of_master(self, place: int) -> int:
+        return self.of_etcd(place)
+
+    def of_front(self, place: int) -> int:
+        return place + 1 if self.is_together else 31 + place
+
+    @staticmethod
+    def of_clients() -> int:
+        return 41
+
+    def machines(self, members: int, fronts: int) -> list[int]:
+        return [*self.of_nodes(), *map(self.of_etcd, range(members)), *map(self.of_front, range(fronts)), self.of_clients()]
+
+
 class Cluster:
-    """A cluster on this machine."""
+    """A cluster on this machine, or on machines of a network."""
 
     def __init__(self, room: Path, size: int = 3, members: int = 1, masters: int = 2, absent: tuple[int, ...] = (),
                  programs: Callable[[str], str] = lambda name: program(), breakable: bool = False,
                  gateways: bool = False, certificates: Certificates | None = None, clocks: bool = False,
-                 words: Callable[[int], list[str]] = lambda number: [], traced: bool = True) -> None:
+                 words: Callable[[int], list[str]] = lambda number: [], traced: bool = True,
+                 network: Network | Loopback = Loopback(), layout: Layout = Layout(), preloaded: list[Path] | None = None) -> None:
         """`words` are those that the node that is started as that one gets, beside the usual ones. With `clocks` the wall clocks of
-        nodes can be stepped. `traced`: nodes write down all that servers tell, which takes time."""
-        self.traced = traced
+        nodes can be stepped. `traced`: nodes write down all that servers tell, which takes time. `preloaded` are libraries that
+        nodes load ahead of the system's."""
+        self.traced, self.network, self.layout, self.preloaded = traced, network, layout, preloaded or []
+        # Machines on which no node is started now, each as often as there is a reason.
+        self.unfit: list[int] = []
         self.between: list[Proxy] = []
         self.words = words
         self.room, self.size, self.programs, self.gateways = room, size, programs, gateways
         self.certificates, self.clocks = certificates, clocks
-        self.etcd = Etcd(room, members, certificates)
-        made = run("cluster", "create", *self.which("master"), "--nodes", str(size))
-        assert made.returncode == 0, made.stderr
-        self.incarnation = json.loads(self.etcd.read(f"hobbychair/{NAME}/cluster")[f"hobbychair/{NAME}/cluster"])["incarnation"]
-        self.root = f"hobbychair/{NAME}/{self.incarnation}"
+        self.etcd = Etcd(room, members, certificates, network, [layout.of_etcd(place) for place in range(members)])
         self.nodes: list[Node] = []
         self.masters: list[subprocess.Popen] = []
         self.last: dict[str, Any] = {}
         try:
+            made = run("cluster", "create", *self.which("master"), "--nodes", str(size))
+            assert made.returncode == 0, made.stderr
+            self.incarnation = json.loads(self.etcd.read(f"hobbychair/{NAME}/cluster")[f"hobbychair/{NAME}/cluster"])["incarnation"]
+            self.root = f"hobbychair/{NAME}/{self.incarnation}"
             # The last one first, so that each finds the ways to those behind it as they stand in etcd by then.
             for server in range(size, 0, -1) if breakable else range(1, size + 1):
                 if server not in absent:
@@ -346,30 +452,42 @@ class Cluster:
         context = self.certificates.client(self.certificates.has(role, name))
         return {"ssl": context, "server_hostname": self.certificates.name_of("node")}
 
-    def _start(self, name: str, *words: str, clock: WallClock | None = None) -> tuple[subprocess.Popen, Path]:
+    def start(self, machine: int, name: str, *words: str, clock: WallClock | None = None,
+              preloaded: list[Path] | None = None) -> tuple[subprocess.Popen, Path]:
+        """Starts a process of the cluster. It tells the process and its log."""
         log = self.room / f"{name}.log"
+        libraries = [*(preloaded or []), *([FAKETIME] if clock else [])]
         environment = {**os.environ, "HOBBYCHAIR_CQ": self.programs(name), **(clock.environment() if clock else {})}
+        if libraries:
+            environment |= {"LD_PRELOAD": ":".join(map(str, libraries)), "HOBBYCHAIR_TEST_ASKS": str(self.room / f"{name}.asks")}
         with open(log, "ab") as out:
-            return subprocess.Popen([gateway_program(), *words], env=environment, stdin=subprocess.DEVNULL, stdout=out,
-                                    stderr=out), log
+            return subprocess.Popen(self.network.at(machine, gateway_program(), *words), env=environment, stdin=subprocess.DEVNULL,
+                                    stdout=out, stderr=out), log
+
+    def free_machine(self) -> int | None:
+        """One on which a node can be started."""
+        taken = {node.machine for node in self.nodes if node.lives()} | set(self.unfit)
+        return next((machine for machine in self.layout.of_nodes() if machine not in taken), None)
 
     def start_node(self, first: int | None = None) -> Node:
-        name = f"node{len(self.nodes) + 1}"
-        proxy = Proxies(self.etcd.urls)
-        urls = ",".join(proxy.urls)
+        number, machine = len(self.nodes) + 1, first or self.free_machine() or 0
+        name, address = f"node{number}", self.network.address(machine)
+        # Between machines links are cut elsewhere.
+        proxy = None if self.network.has_machines else Proxies(self.etcd.urls)
+        urls = ",".join(proxy.urls if proxy else self.etcd.urls)
         trace = self.room / f"{name}.trace"
         how = ["--first", str(first)] if first else ["--join"]
-        [port] = free_ports(1)
+        listen, port = (NODES, GATEWAYS + number) if self.network.has_machines else (0, *free_ports(1))
         if self.gateways:
-            how += ["--gateway", f"127.0.0.1:{port}"]
-        how += self.words(len(self.nodes) + 1)
+            how += ["--gateway", f"{address}:{port}"]
+        how += self.words(number)
         which = [urls if word == ",".join(self.etcd.urls) else word for word in self.which("node", name)]
         clock = WallClock(self.room / f"{name}.clock") if self.clocks else None
         traced = ["--trace", str(trace)] if self.traced else []
-        process, log = self._start(name, "node", *which, "--listen", "127.0.0.1:0", *traced, *how, clock=clock)
+        process, log = self.start(machine, name, "node", *which, "--listen", f"{address}:{listen}", *traced, *how, clock=clock,
+                                  preloaded=self.preloaded)
         node = Node(process, log, trace, proxy)
-        node.clock = clock
-        node.gateway_port = port
+        node.number, node.machine, node.clock, node.gateway_port = number, machine, clock, port
         self.nodes.append(node)
         return node
 
@@ -388,9 +506,11 @@ class Cluster:
         registration["address"] = proxy.url.removeprefix("http://")
         self.etcd.write(key, json.dumps(registration, separators=(",", ":")))
 
-    def start_master(self) -> None:
-        process, _ = self._start(f"master{len(self.masters) + 1}", "master", *self.which("master"))
-        self.masters.append(process)
+    def start_master(self, place: int | None = None) -> None:
+        """One more, or the one of that place again."""
+        place = len(self.masters) if place is None else place
+        process, _ = self.start(self.layout.of_master(place), f"master{place + 1}", "master", *self.which("master"))
+        self.masters[place : place + 1] = [process]
 
     def node(self, server: int) -> Node:
         return next(node for node in self.nodes if node.look() and node.server == server)
@@ -424,9 +544,7 @@ class Cluster:
         return is_so
 
     def kill(self, server: int) -> None:
-        node = self.node(server)
-        node.process.kill()
-        node.process.wait()
+        self.node(server).kill()
 
     def stop_masters(self) -> None:
         for master in self.masters:

@@ -2,12 +2,14 @@
 
 from __future__ import annotations
 
+import json
 import signal
 import time
 
 import pytest
 
-from clusters import Cluster, has_etcd, wait
+from cluster_users import Users
+from clusters import Cluster, Etcd, has_etcd, wait
 from test_cluster import answered, start  # noqa: F401
 
 pytestmark = pytest.mark.skipif(not has_etcd(), reason="etcd isn't there: Debian's etcd-server has it")
@@ -37,6 +39,70 @@ def test_etcd_is_stopped(start):
     time.sleep(3)
     assert cluster.settles([1, 2, 3])() and cluster.detected() == []
     answered(users)
+
+
+def begin_again(etcd: Etcd) -> None:
+    etcd.begin_again()
+    wait(20, etcd.answers, "etcd doesn't begin again")
+
+
+def test_etcd_is_put_back_from_a_copy_that_lacks_beats_alone(start):
+    cluster, users = start(members=3)
+    etcd = cluster.etcd
+    # Nobody appends a line meanwhile.
+    cluster.stop_masters()
+    etcd.kill()
+    etcd.copy()
+    begin_again(etcd)
+    time.sleep(2)
+    before = beats(cluster)
+    etcd.kill()
+    etcd.put_back()
+    # Their next beats aren't there at once.
+    for node in cluster.nodes:
+        node.stop()
+    begin_again(etcd)
+    assert all(beat < before[server] for server, beat in beats(cluster).items()), "etcd isn't put back"
+    for node in cluster.nodes:
+        node.go_on()
+    cluster.masters_go_on()
+    answered(users)
+    time.sleep(3)
+    assert cluster.detected() == []
+    cluster.kill(2)
+    wait(10, cluster.settles([1, 3]), "it isn't detected")
+    answered(users)
+
+
+def beats(cluster: Cluster) -> dict[str, int]:
+    """The number of each server's last beat."""
+    return {server: json.loads(beat)["number"] for server, beat in cluster.etcd.read(f"{cluster.root}/beat/").items()}
+
+
+def test_who_knows_more_of_the_log_than_etcd_has_waits(tmp_path):
+    """A copy of etcd lacks a line. Nothing is promised then; requests go on, and the chain can't change."""
+    cluster = Cluster(tmp_path)
+    try:
+        users, etcd = Users(cluster, 1), cluster.etcd
+        wait(15, lambda: len(users.records) > 50, "users aren't answered")
+        etcd.kill()
+        etcd.copy()
+        begin_again(etcd)
+        time.sleep(1.5)
+        cluster.kill(2)
+        wait(10, cluster.settles([1, 3]), "it isn't detected")
+        etcd.kill()
+        etcd.put_back()
+        begin_again(etcd)
+        assert cluster.log() == []
+        # For a candidate that knew of no line a server would have been silent for long enough by then.
+        time.sleep(6)
+        assert cluster.log() == [] and all(master.poll() is None for master in cluster.masters)
+        answered(users)
+        users.stop()
+    finally:
+        print(cluster.said())
+        cluster.end()
 
 
 def test_all_nodes_are_stopped_at_once(start):
