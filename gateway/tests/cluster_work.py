@@ -5,6 +5,7 @@ from __future__ import annotations
 import http.client
 import itertools
 import json
+import random
 import threading
 import time
 from collections import defaultdict
@@ -15,8 +16,8 @@ from typing import Any
 
 import botocore.exceptions
 
-from clusters import NAME, Cluster, wait
-from started import ByJson, Refused, Started, boto3_client
+from clusters import Cluster, free_ports, wait
+from started import ByJson, Refused, boto3_client
 
 # What a client takes for an answer that didn't come.
 UNANSWERED = (botocore.exceptions.BotoCoreError, botocore.exceptions.ClientError, Refused, OSError, http.client.HTTPException)
@@ -29,13 +30,49 @@ SLACK = 0.1
 
 LARGE = 600_000
 
+# What was sent so long ago is known still, in seconds: it is for five minutes.
+REPEATS = 240
+
+# Where a front listens that has a machine of its own.
+FRONTS = 9324
+
+
+class GivenUp(Exception):
+    """The work has been given up."""
+
+
+class Front:
+    """A front of a cluster, which can be started again where it was."""
+
+    def __init__(self, cluster: Cluster, place: int) -> None:
+        self.cluster, self.machine, self.name = cluster, cluster.layout.of_front(place), f"front{place + 1}"
+        [port] = [FRONTS] if cluster.network.has_machines else free_ports(1)
+        self.words = ["--host", cluster.network.address(self.machine), "--port", str(port)]
+        # Others are served on machines than the front's own.
+        self.words += ["--open"] if cluster.network.has_machines else []
+        self.url = f"http://{cluster.network.address(self.machine)}:{port}"
+        self.start()
+
+    def start(self) -> None:
+        self.process, self.log = self.cluster.start(self.machine, self.name, "serve", *self.cluster.which("front"), *self.words)
+
+    def serves(self) -> bool:
+        return "listening on" in self.log.read_text()
+
+    def lives(self) -> bool:
+        return self.process.poll() is None
+
+    def kill(self) -> None:
+        self.process.kill()
+        self.process.wait()
+
 
 class Served:
     """A cluster with fronts, and a client of the first one."""
 
     def __init__(self, room: Path, size: int = 3, fronts: int = 1, **how: Any) -> None:
         self.cluster = Cluster(room, size=size, gateways=True, **how)
-        self.fronts: list[Started] = []
+        self.fronts: list[Front] = []
         try:
             wait(30, lambda: self.cluster.gateway_acts(1), "no gateway acts")
             for _ in range(fronts):
@@ -46,13 +83,15 @@ class Served:
             raise
 
     def add_front(self) -> None:
-        self.fronts.append(Started("--cluster", NAME, "--etcd", ",".join(self.cluster.etcd.urls)))
+        self.fronts.append(Front(self.cluster, len(self.fronts)))
+        wait(20, self.fronts[-1].serves, "the front doesn't begin")
         self.front = self.fronts[0]
         self.sqs = self.client()
 
     def client(self, number: int = 0):
-        """Of one of the fronts."""
-        return boto3_client(self.fronts[number % len(self.fronts)].url, read_timeout=60, connect_timeout=5)
+        """Of one of the fronts. Where that one's machine is lost, nothing ever comes back."""
+        patience = 30 if self.cluster.network.has_machines else 60
+        return boto3_client(self.fronts[number % len(self.fronts)].url, read_timeout=patience, connect_timeout=5)
 
     def queue(self, name: str, **attributes: str) -> str:
         fifo = {"FifoQueue": "true"} if name.endswith(".fifo") else {}
@@ -79,6 +118,12 @@ class Served:
 def whole(body: str, size: int) -> str:
     """A body that begins so, and has so many bytes more."""
     return f"{body} {body * (size // len(body))}" if size else body
+
+
+def told(answer: dict[str, Any]) -> str:
+    """What an answer is about, in a few words."""
+    messages = [f"{message['Body'].split(' ')[0]} ({message['ReceiptHandle'][-12:]})" for message in answer.get("Messages", [])]
+    return " ".join(messages) or str(answer.get("MessageId", "")) or "done"
 
 
 def arn(name: str) -> str:
@@ -123,8 +168,11 @@ class Work:
         self.purge: tuple[float, float] | None = None
         self.answers: list[float] = []
         self.errors: list[str] = []
+        self.own = threading.local()
         self.wrong: list[str] = []
-        self.sending, self.receiving = True, True
+        # When each call was asked and ended, what it was, and what came of it.
+        self.history: list[tuple[float, float, str, str]] = []
+        self.sending, self.receiving, self.is_given_up = True, True, False
         jobs: list[tuple[Any, ...]] = [(self.send_fifo, group) for group in "abc"]
         jobs += [(self.send_standard, f"standard{number}", self.standard) for number in (1, 2)]
         jobs += [(self.send_standard, f"delayed{number}", self.delayed) for number in (1, 2)]
@@ -148,36 +196,51 @@ class Work:
         except BaseException as error:
             self.wrong.append(f"{job.__name__}: {error!r}")
 
-    def call(self, action: Callable[[], Any]) -> Any:
+    def call(self, what: str, action: Callable[[], Any]) -> Any:
         """The answer, or nothing where none came."""
+        if self.is_given_up:
+            raise GivenUp
+        asked = time.monotonic()
         try:
             answer = action()
         except UNANSWERED as error:
-            self.errors.append(repr(error))
+            self.own.error = repr(error)
+            self.errors.append(self.own.error)
+            self.history.append((asked, time.monotonic(), what, self.own.error))
             return None
         self.answers.append(time.monotonic())
+        self.history.append((asked, self.answers[-1], what, told(answer)))
         return answer
+
+    def give_up(self) -> None:
+        """Ends at once."""
+        self.is_given_up, self.sending, self.receiving = True, False, False
 
     # ---- senders
 
     def send_fifo(self, group: str) -> None:
-        """Each message is sent until it is acknowledged, before the next one is; some are sent once more."""
+        """Each message is sent until it is acknowledged, before the next one is; some of the last minutes are sent again."""
+        chance, sent = random.Random(group), []
         for number in itertools.count():
-            sqs = self.served.client(number)
-            body = f"{group}-{number}"
-
-            def send() -> Any:
-                return sqs.send_message(QueueUrl=self.fifo, MessageBody=body, MessageGroupId=group, MessageDeduplicationId=body)
-
-            while self.sending and not (sent := self.call(send)):
+            sqs, body, asked = self.served.client(number), f"{group}-{number}", time.monotonic()
+            while self.sending and not (answer := self.send_to_group(sqs, group, body)):
                 time.sleep(0.1)
             if not self.sending:
                 return
             self.acknowledged[self.fifo].append(body)
-            again = self.call(send) if number % 10 == 0 else None
-            if again:
-                assert again["MessageId"] == sent["MessageId"], f"{body} was sent twice, as {sent} and {again}"
+            sent.append((asked, body, answer["MessageId"]))
+            if number % 10 == 0:
+                self.send_again(sqs, group, *chance.choice(sent))
             time.sleep(0.02)
+
+    def send_to_group(self, sqs: Any, group: str, body: str) -> Any:
+        words = {"QueueUrl": self.fifo, "MessageBody": body, "MessageGroupId": group, "MessageDeduplicationId": body}
+        return self.call(f"send {body}", lambda: sqs.send_message(**words))
+
+    def send_again(self, sqs: Any, group: str, asked: float, body: str, first: str) -> None:
+        """Within five minutes that adds nothing, and tells the same."""
+        if time.monotonic() - asked < REPEATS and (again := self.send_to_group(sqs, group, body)):
+            assert again["MessageId"] == first, f"{body} was sent twice, as {first} and {again}"
 
     def send_standard(self, name: str, queue: str, size: int = 0, pause: float = 0.03) -> None:
         """Each message is sent once."""
@@ -186,7 +249,8 @@ class Work:
             if not self.sending:
                 return
             body = f"{name}-{number}"
-            if self.call(lambda: self.served.client(number).send_message(QueueUrl=queue, MessageBody=whole(body, size))):
+            sqs = self.served.client(number)
+            if self.call(f"send {body}", lambda: sqs.send_message(QueueUrl=queue, MessageBody=whole(body, size))):
                 self.acknowledged[goal].append(body)
             time.sleep(pause)
 
@@ -197,14 +261,14 @@ class Work:
             if not self.sending:
                 return
             body = f"purged-{number}"
-            if self.call(lambda: sqs.send_message(QueueUrl=self.purged, MessageBody=body)):
+            if self.call(f"send {body}", lambda: sqs.send_message(QueueUrl=self.purged, MessageBody=body)):
                 self.to_purge[body] = time.monotonic()
                 if self.purge:
                     self.acknowledged[self.purged].append(body)
             if number == 40:
                 asked = time.monotonic()
                 # Where an answer was lost, a second purge is refused, since the first one was done.
-                while not self.call(lambda: sqs.purge_queue(QueueUrl=self.purged)) and "PurgeQueueInProgress" not in self.errors[-1]:
+                while not (self.call("purge", lambda: sqs.purge_queue(QueueUrl=self.purged)) or self.ended("PurgeQueueInProgress")):
                     time.sleep(0.2)
                 self.purge = (asked, time.monotonic())
             time.sleep(0.1)
@@ -219,7 +283,7 @@ class Work:
             made: list[str] = []
 
             def make(sqs: Any) -> None:
-                while not (answer := self.call(lambda: sqs.create_queue(QueueName=name))):
+                while not (answer := self.call(f"create {name}", lambda: sqs.create_queue(QueueName=name))):
                     time.sleep(0.1)
                 made.append(answer["QueueUrl"].rsplit("/", 1)[1])
 
@@ -230,12 +294,17 @@ class Work:
                 thread.join()
             assert made == [name, name], made
             urls = [f"{front.url}/000000000000/{name}" for front in (self.served.fronts[0], self.served.fronts[-1])]
-            if self.call(lambda: clients[0].send_message(QueueUrl=urls[0], MessageBody=name)):
+            if self.call(f"send {name}", lambda: clients[0].send_message(QueueUrl=urls[0], MessageBody=name)):
                 got = None
                 while not got:
-                    got = (self.call(lambda: clients[1].receive_message(QueueUrl=urls[1], WaitTimeSeconds=2)) or {}).get("Messages")
+                    answer = self.call(f"receive {name}", lambda: clients[1].receive_message(QueueUrl=urls[1], WaitTimeSeconds=2))
+                    got = (answer or {}).get("Messages")
                 assert got[0]["Body"] == name
-            while not self.call(lambda: clients[1].delete_queue(QueueUrl=urls[1])) and "NonExistentQueue" not in self.errors[-1]:
+
+            def remove() -> Any:
+                return clients[1].delete_queue(QueueUrl=urls[1])
+
+            while not (self.call(f"remove {name}", remove) or self.ended("NonExistentQueue")):
                 time.sleep(0.1)
             while not self.is_gone(clients[0], name):
                 time.sleep(0.1)
@@ -252,13 +321,19 @@ class Work:
             return False
         raise AssertionError(f"{name} is there behind its removal")
 
+    def ended(self, error: str) -> bool:
+        """Whether the last call of this thread that wasn't answered well had that error."""
+        return error in self.own.error
+
     # ---- receivers
 
     def receive(self, queue: str, place: int) -> None:
         sqs = self.served.client(place)
         while self.receiving:
             asked = time.monotonic()
-            got = self.call(lambda: sqs.receive_message(QueueUrl=queue, MaxNumberOfMessages=10, WaitTimeSeconds=1))
+            name = queue.rsplit("/", 1)[1]
+            got = self.call(f"receive {name}",
+                            lambda: sqs.receive_message(QueueUrl=queue, MaxNumberOfMessages=10, WaitTimeSeconds=1))
             answered = time.monotonic()
             for message in (got or {}).get("Messages", []):
                 if queue == self.source:
@@ -273,14 +348,14 @@ class Work:
     def delete(self, sqs: Any, queue: str, message: dict[str, Any]) -> None:
         key = (queue, message["Body"].split(" ")[0])
         self.deleting.setdefault(key, time.monotonic())
-        if self.call(lambda: sqs.delete_message(QueueUrl=queue, ReceiptHandle=message["ReceiptHandle"])):
+        if self.call(f"delete {key[1]}", lambda: sqs.delete_message(QueueUrl=queue, ReceiptHandle=message["ReceiptHandle"])):
             self.deleted.setdefault(key, time.monotonic())
 
     def move(self) -> None:
         """Starts a task whenever none runs."""
         ask = ByJson(self.served.fronts[-1].url)
         while self.receiving:
-            started = self.call(lambda: ask("StartMessageMoveTask", SourceArn=arn("shelf"), DestinationArn=arn("moved")))
+            started = self.call("move", lambda: ask("StartMessageMoveTask", SourceArn=arn("shelf"), DestinationArn=arn("moved")))
             time.sleep(1 if started else 0.3)
 
     # ---- what has to hold
