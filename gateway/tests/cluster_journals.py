@@ -5,6 +5,7 @@ from __future__ import annotations
 import json
 import struct
 import zlib
+from collections.abc import Callable
 from dataclasses import dataclass, field
 from pathlib import Path
 from typing import Any
@@ -91,12 +92,13 @@ def folder_of(cluster: Cluster, server: int, room: Path) -> Path:
     return room / f"{cluster.incarnation}-{server}"
 
 
-def check_journals(cluster: Cluster, room: Path) -> None:
+def check_journals(cluster: Cluster, room: Path | Callable[[Node], Path], run: Run | None = None) -> None:
     """The journal of each server has a front of its list. What it put rests on no more than that."""
-    servers = Run(cluster)
+    servers = run or Run(cluster)
     for node in cluster.nodes:
-        if node.look() and folder_of(cluster, node.server, room).exists():
-            journal, history = Journal(folder_of(cluster, node.server, room)), servers.history(node.server)
+        folder = folder_of(cluster, node.server, room if isinstance(room, Path) else room(node))
+        if node.look() and folder.exists():
+            journal, history = Journal(folder), servers.history(node.server)
             assert journal.count() <= len(history), f"the journal of server {node.server} has more than that server"
             assert journal.words() == history[journal.base : journal.count()], f"the journal of server {node.server} has other entries"
 

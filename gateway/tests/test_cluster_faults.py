@@ -1,65 +1,164 @@
 """A cluster that serves SQS, with faults by a seed: HOBBYCHAIR_TEST_RUNS says how many runs, from HOBBYCHAIR_TEST_SEED on, each of
-HOBBYCHAIR_TEST_FAULTS_EACH faults. `check/faults` sets these."""
+HOBBYCHAIR_TEST_FAULTS_EACH faults, and HOBBYCHAIR_TEST_NETWORK whether on `namespaces` of the network or on `loopback`. `check/faults`
+sets these."""
 
 from __future__ import annotations
 
+import contextlib
 import os
+import random
 import time
+from collections.abc import Iterator
+from dataclasses import dataclass
+from pathlib import Path
 
 import pytest
 
-from cluster_faults import GatewayFaults, heals
+from certificates import Certificates
+from cluster_disks import Disks
+from cluster_faults import heals
 from cluster_journals import check_journals
-from cluster_oracle import check_servers
+from cluster_network import Loopback, Network, why_not
+from cluster_oracle import stopped
+from cluster_report import all_that_happened, keep_table, only_its_own
+from cluster_served_faults import ServedFaults
 from cluster_work import Served, Work
-from clusters import FAKETIME, has_etcd, wait
+from clusters import FAKETIME, NAME, Cluster, Layout, has_etcd, wait
+from preloaded import built
 
 SEED = int(os.environ.get("HOBBYCHAIR_TEST_SEED", "6"))
 RUNS = int(os.environ.get("HOBBYCHAIR_TEST_RUNS", "1"))
 EACH = int(os.environ.get("HOBBYCHAIR_TEST_FAULTS_EACH", "8"))
+NETWORK = os.environ.get("HOBBYCHAIR_TEST_NETWORK", "where they can be made")
+
+MEMBERS, FRONTS = 3, 2
 
 pytestmark = pytest.mark.skipif(not has_etcd(), reason="etcd isn't there: Debian's etcd-server has it")
 
 
+@dataclass
+class Plan:
+    """What kind of a cluster a run has, by its seed."""
+
+    seed: int
+
+    def __post_init__(self) -> None:
+        chance = random.Random(f"plan {self.seed}")
+        self.size = chance.choice([3, 4, 5])
+        self.layout = Layout(is_together=chance.random() < 0.7)
+        # None, or whether journals wait for the disk.
+        self.durable = chance.choice([None, False, True, True])
+
+    def __str__(self) -> str:
+        kept = {None: "no journals", False: "journals", True: "durable journals"}[self.durable]
+        return f"{self.size} nodes {'beside' if self.layout.is_together else 'apart from'} etcd and fronts, with {kept}"
+
+
+@contextlib.contextmanager
+def network_of(plan: Plan) -> Iterator[Network | Loopback]:
+    """Machines with this test as one of them, or this machine alone."""
+    reason = why_not(("ip", "nsenter", "iptables"))
+    if NETWORK == "namespaces" and reason:
+        pytest.skip(reason)
+    if NETWORK == "loopback" or reason:
+        yield Loopback()
+        return
+    network = Network(plan.layout.machines(MEMBERS, FRONTS))
+    try:
+        network.begin()
+        with network.entered(plan.layout.of_clients()):
+            yield network
+    finally:
+        network.end()
+
+
+def certificates_for(network: Network | Loopback, room: Path) -> Certificates | None:
+    """Between machines all speak TLS. Where wall clocks are stepped, certificates are older than these steps."""
+    if not network.has_machines:
+        return None
+    older = {"LD_PRELOAD": str(FAKETIME), "FAKETIME": "-86400"} if FAKETIME.exists() else {}
+    return Certificates(room / "certificates", NAME, **older)
+
+
 @pytest.mark.parametrize("seed", range(SEED, SEED + RUNS))
 def test_faults_of_a_cluster_that_serves(tmp_path, seed):
-    # Three to five nodes, and one or three members of etcd.
-    size, members = 3 + seed % 3, 1 + 2 * (seed % 2)
-    # Nodes of every other run keep journals, and of every fourth one wait for the disk.
-    journals, is_kept = tmp_path / "journals", seed % 2 == 0
-    kept = ["--journal", str(journals), "--journal-size", "100KiB"] + (["--durable"] if seed % 4 == 0 else [])
-    served = Served(tmp_path, size=size, members=members, fronts=2, breakable=True, clocks=FAKETIME.exists(),
-                    words=lambda number: kept if is_kept else [])
-    cluster, faults = served.cluster, GatewayFaults(served, seed)
+    plan = Plan(seed)
+    with network_of(plan) as network:
+        disks = None if plan.durable is None else Disks(tmp_path / "disks", plan.durable)
+        try:
+            play(tmp_path, plan, network, disks)
+        finally:
+            if disks:
+                disks.end()
+
+
+def play(room: Path, plan: Plan, network: Network | Loopback, disks: Disks | None) -> None:
+    counting, hanging = built("ended_between_asks.rs", room), disks.library if disks else None
+    served = Served(room, size=plan.size, members=MEMBERS, fronts=FRONTS, breakable=not network.has_machines, clocks=FAKETIME.exists(),
+                    words=disks.words if disks else lambda number: [], network=network, layout=plan.layout,
+                    certificates=certificates_for(network, room), preloaded=[one for one in (counting, hanging) if one])
+    cluster, faults, work = served.cluster, ServedFaults(served, plan.seed, disks, counting is not None), None
     try:
         work = Work(served)
         work.goes_on()
         begun = time.monotonic()
-        while len(faults.done) < EACH:
-            faults.one()
-            pause = time.monotonic() + faults.random.uniform(0.2, 4)
-            while time.monotonic() < pause:
-                faults.due()
-                faults.population(size)
-                time.sleep(0.1)
-        faults.end()
-        healed = time.monotonic() + 40
-        while not heals(cluster):
-            assert time.monotonic() < healed, "it doesn't heal"
-            faults.population(size)
-            time.sleep(0.2)
-        head = cluster.chain()["members"][0]
-        wait(30, lambda: cluster.gateway_acts(head), "no gateway acts")
-        work.goes_on()
+        play_faults(faults, plan.size)
+        heal(cluster, faults, plan.size)
+        work.goes_on(60)
         print(f"{len(faults.done)} faults, {work.longest_silence(begun):.2f} s without an answer at most")
         work.stop()
-        print(f"{check_servers(cluster)} events")
-        if is_kept:
-            check_journals(cluster, journals)
+        check(cluster, faults, disks)
+        about = {"network": "namespaces" if network.has_machines else "loopback", "cluster": str(plan)}
+        keep_table(plan.seed, about | {"longest": round(work.longest_silence(begun), 2)}, faults.done, work)
+        for trace in room.glob("*.trace"):
+            trace.unlink()
     except BaseException:
         print(cluster.said())
+        for node in cluster.nodes:
+            node.stop()
+        report = all_that_happened(plan.seed, faults.done, work, cluster)
+        (room / "all-that-happened").write_text(report)
+        print(report)
         raise
     finally:
-        faults.end()
-        print(f"seed {seed}, {size} nodes, {members} members of etcd: {faults.done}")
-        served.end()
+        print(f"seed {plan.seed}, {'namespaces' if network.has_machines else 'loopback'}: {plan}")
+        print("\n".join(map(str, faults.done)), f"\nstarted again: {faults.started_again}")
+        if work:
+            work.give_up()
+        try:
+            faults.end()
+        finally:
+            served.end()
+
+
+def play_faults(faults: ServedFaults, size: int) -> None:
+    while len(faults.done) < EACH:
+        pause = time.monotonic() + (faults.random.uniform(0.2, 4) if faults.one() else 0.1)
+        while time.monotonic() < pause:
+            faults.due()
+            faults.keep_all_going(size)
+            time.sleep(0.1)
+
+
+def heal(cluster: Cluster, faults: ServedFaults, size: int) -> None:
+    """All that was stopped or cut goes on, and then there is a whole chain again, whose gateway acts."""
+    faults.until(80, lambda: not faults.later)
+    healed = time.monotonic() + 60
+    while not heals(cluster):
+        assert time.monotonic() < healed, "it doesn't heal"
+        faults.keep_all_going(size)
+        time.sleep(0.2)
+    wait(30, lambda: cluster.gateway_acts(cluster.chain()["members"][0]), "no gateway acts")
+    faults.keep_all_going(size)
+
+
+def check(cluster: Cluster, faults: ServedFaults, disks: Disks | None) -> None:
+    run = stopped(cluster)
+    panicked = [log.name for log in cluster.room.glob("*.log") if "panicked at" in log.read_text()]
+    assert not panicked, panicked
+    run.check_list()
+    print(f"{run.check_servers()} events")
+    if disks:
+        check_journals(cluster, lambda node: disks.folder(node.number), run)
+    if faults.severed:
+        print("entries that a killed head alone had:", {server: only_its_own(run, server) for server in faults.severed})

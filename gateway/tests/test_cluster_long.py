@@ -11,6 +11,7 @@ import urllib.request
 import pytest
 
 from cluster_faults import Faults, heals
+from cluster_work import Served, Work
 from clusters import has_etcd, wait
 from test_cluster import SEED, answered, start  # noqa: F401
 
@@ -184,6 +185,28 @@ def test_what_etcd_is_asked_when_nothing_happens(start):
     before = requests()
     time.sleep(10)
     assert (requests() - before) / 10 < 14
+
+
+@long
+@pytest.mark.parametrize("seconds", [60, 360])
+def test_a_head_and_its_gateway_stand_still_for_minutes(tmp_path, seconds):
+    """By then others serve, and nothing that it does counts."""
+    served = Served(tmp_path, fronts=2)
+    try:
+        work, node = Work(served), served.cluster.node(1)
+        work.goes_on()
+        node.stop()
+        stopped = time.monotonic()
+        wait(10, served.cluster.settles([2, 3]), "it isn't detected")
+        work.goes_on()
+        time.sleep(seconds - (time.monotonic() - stopped))
+        node.go_on()
+        wait(10, lambda: not node.lives(), "it doesn't end")
+        work.goes_on()
+        work.stop()
+    finally:
+        print(served.cluster.said())
+        served.end()
 
 
 @pytest.mark.skipif(FAULTS == 0, reason="HOBBYCHAIR_TEST_FAULTS isn't set")
