@@ -343,13 +343,17 @@ class Work:
                 self.deliveries[queue].append(Delivery(asked, answered, body))
             for message in (got or {}).get("Messages", []):
                 if queue != self.source:
-                    self.delete(sqs, queue, message)
+                    self.delete(sqs, queue, message, asked)
 
-    def delete(self, sqs: Any, queue: str, message: dict[str, Any]) -> None:
+    def delete(self, sqs: Any, queue: str, message: dict[str, Any], asked: float) -> None:
+        """`asked`: when it was received. By the handle of an earlier handing a delete does nothing, so one that may have come behind
+        the timeout says nothing of the message."""
         key = (queue, message["Body"].split(" ")[0])
         self.deleting.setdefault(key, time.monotonic())
         if self.call(f"delete {key[1]}", lambda: sqs.delete_message(QueueUrl=queue, ReceiptHandle=message["ReceiptHandle"])):
-            self.deleted.setdefault(key, time.monotonic())
+            answered = time.monotonic()
+            if answered < asked + TIMEOUT - SLACK:
+                self.deleted.setdefault(key, answered)
 
     def move(self) -> None:
         """Starts a task whenever none runs."""
