@@ -4,6 +4,7 @@ from __future__ import annotations
 
 import json
 import os
+import shutil
 import signal
 import time
 from collections.abc import Iterator
@@ -13,7 +14,7 @@ import pytest
 
 from cluster_work import Served, Work, arn
 from clusters import has_etcd, run, wait
-from started import ByJson, Refused
+from started import ByJson, Refused, gateway_program
 
 pytestmark = pytest.mark.skipif(not has_etcd(), reason="etcd isn't there: Debian's etcd-server has it")
 
@@ -253,6 +254,28 @@ def test_the_acting_gateway_is_stopped(served):
     print(f"{work.longest_silence(begun):.2f} s without an answer")
     work.stop()
     assert served.cluster.chain()["members"] == [1, 2, 3] and served.cluster.detected() == []
+
+
+def test_the_next_gateway_begins_though_another_program_stands_in_the_file(tmp_path, monkeypatch):
+    """As behind an upgrade of the package, ahead of the node's next start."""
+    program = tmp_path / "hobbychair"
+    shutil.copy(gateway_program(), program)
+    monkeypatch.setenv("HOBBYCHAIR_GATEWAY", str(program))
+    served = Served(tmp_path, size=1)
+    try:
+        queue = served.queue("q")
+        other = tmp_path / "other"
+        other.write_text("#!/bin/sh\nexit 1\n")
+        other.chmod(0o755)
+        other.replace(program)
+        first = gateway_of(served, 1)
+        os.kill(first, signal.SIGKILL)
+        # The front asks until the next one acts.
+        served.sqs.send_message(QueueUrl=queue, MessageBody="a")
+        assert gateway_of(served, 1) != first
+    finally:
+        print(served.cluster.said())
+        served.end()
 
 
 def test_a_node_that_joins_serves_once_all_others_are_lost(served):

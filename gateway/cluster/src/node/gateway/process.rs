@@ -5,6 +5,7 @@ use std::io::Write;
 use std::os::fd::{AsRawFd, FromRawFd, OwnedFd, RawFd};
 use std::os::unix::net::UnixStream as Socket;
 use std::os::unix::process::CommandExt;
+use std::path::PathBuf;
 use std::process::{Command, Stdio};
 use std::sync::atomic::AtomicUsize;
 use std::sync::{mpsc, Arc};
@@ -123,7 +124,7 @@ fn command(cluster: &Cluster, settings: &Settings) -> io::Result<(Command, Socke
 /// The command without its standard input, and files that it is given.
 fn program(cluster: &Cluster, settings: &Settings) -> io::Result<(Command, Vec<OwnedFd>)> {
     let listen = settings.place.listen;
-    let mut command = Command::new(std::env::current_exe()?);
+    let mut command = Command::new(this_program());
     command.args(["serve", "--beside-node", "--host", &listen.ip().to_string()]);
     command.args(["--port", &listen.port().to_string()]);
     let mut files = Vec::new();
@@ -139,6 +140,13 @@ fn program(cluster: &Cluster, settings: &Settings) -> io::Result<(Command, Vec<O
     command.process_group(0);
     end_with_this_process(&mut command);
     Ok((command, files))
+}
+
+/// The node's own program. Where another one stands in its file by now, as behind an upgrade, the system has it still: a node and
+/// its gateway are of one version.
+fn this_program() -> PathBuf {
+    let named = std::env::current_exe().ok().filter(|path| path.exists());
+    named.unwrap_or_else(|| "/proc/self/exe".into())
 }
 
 /// The gateway shows the certificate that was registered, whatever stands in the files by now: it is given what was read, in
