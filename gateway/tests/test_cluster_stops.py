@@ -80,7 +80,8 @@ def beats(cluster: Cluster) -> dict[str, int]:
 
 
 def test_who_knows_more_of_the_log_than_etcd_has_waits(tmp_path):
-    """A copy of etcd lacks a line. Nothing is promised then; requests go on, and the chain can't change."""
+    """A copy of etcd lacks the lines of a change that was done. Nothing is promised then; requests go on, and the chain can't
+    change."""
     cluster = Cluster(tmp_path)
     try:
         users, etcd = Users(cluster, 1), cluster.etcd
@@ -90,7 +91,11 @@ def test_who_knows_more_of_the_log_than_etcd_has_waits(tmp_path):
         begin_again(etcd)
         time.sleep(1.5)
         cluster.kill(2)
-        wait(10, cluster.settles([1, 3]), "it isn't detected")
+        wait(20, cluster.settles([1, 3]), "it isn't detected")
+        # The change is done by then.
+        answered(users)
+        lines, logs = len(cluster.log()), [tmp_path / f"master{number}.log" for number in (1, 2)]
+        wait(10, lambda: all(f"line={lines}" in log.read_text() for log in logs), "a candidate doesn't know of all lines")
         etcd.kill()
         etcd.put_back()
         begin_again(etcd)
