@@ -310,7 +310,7 @@ class Node:
 
     def look(self) -> bool:
         """Whether it has said who it is."""
-        for line in self.log.read_text().splitlines() if self.server == 0 else ():
+        for line in self.log.read_text().splitlines():
             if line.startswith("server ") and " listens on " in line:
                 words = line.split()
                 self.server, self.port = int(words[1]), int(words[-1].rsplit(":", 1)[1])
