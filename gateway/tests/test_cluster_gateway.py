@@ -161,7 +161,7 @@ def test_a_gateway_that_was_started_in_vain_is_ended_and_one_that_is_not_acts(se
     # Nobody is given up meanwhile.
     served.cluster.stop_masters()
     for _ in range(2):
-        said = node.log.read_text().count("the gateway is ended")
+        said = node.log.read_text().count("heard again: the gateway is ended")
         served.cluster.node(1).stop()
         wait(10, lambda: node.gateway() is not None, "no gateway is started")
         served.cluster.node(1).go_on()
