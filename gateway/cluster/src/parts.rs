@@ -13,6 +13,9 @@ pub const FRAME_LIMIT: usize = 4_194_304;
 /// So many bytes are read at once.
 const CHUNK: usize = 64 << 10;
 
+/// Where there is room for less, more is made.
+const LEAST_ROOM: usize = 16 << 10;
+
 /// Why bytes aren't a frame of this version.
 #[derive(Clone, Copy, Debug, Error, PartialEq, Eq)]
 #[error("{0}")]
@@ -152,6 +155,14 @@ pub fn append_frame(out: &mut Vec<u8>, kind: u8, write: impl FnOnce(&mut Vec<u8>
     out[start..start + 4].copy_from_slice(&length.to_le_bytes());
 }
 
+/// Makes room for more bytes behind those that are there. What is left of the last piece of memory is used first: what was cut
+/// off before keeps that one in use.
+pub fn make_room(buffer: &mut BytesMut) {
+    if buffer.capacity() - buffer.len() < LEAST_ROOM {
+        buffer.reserve(CHUNK);
+    }
+}
+
 /// Cuts a stream of bytes into frames.
 #[derive(Default)]
 pub struct Cutter {
@@ -159,6 +170,11 @@ pub struct Cutter {
 }
 
 impl Cutter {
+    /// Makes room for more of the stream.
+    pub fn make_room(&mut self) {
+        make_room(&mut self.buffer);
+    }
+
     /// The next whole frame, without its length.
     pub fn next(&mut self, limit: usize) -> Result<Option<Bytes>, Malformed> {
         let Some(length) = self.buffer.get(..4) else { return Ok(None) };
@@ -186,6 +202,11 @@ impl<R: AsyncRead + Unpin> Frames<R> {
         Frames { from, cutter: Cutter::default(), limit }
     }
 
+    /// The same behind bytes that were read already.
+    pub fn behind(read: Bytes, from: R, limit: usize) -> Frames<R> {
+        Frames { from, cutter: Cutter { buffer: BytesMut::from(&read[..]) }, limit }
+    }
+
     /// The same, with frames that may be longer or shorter from now on.
     pub fn with_limit(self, limit: usize) -> Frames<R> {
         Frames { limit, ..self }
@@ -205,7 +226,7 @@ impl<R: AsyncRead + Unpin> Frames<R> {
                 Ok(None) => {}
                 Err(malformed) => return Err(io::Error::new(io::ErrorKind::InvalidData, malformed)),
             }
-            self.cutter.buffer.reserve(CHUNK);
+            self.cutter.make_room();
             if self.from.read_buf(&mut self.cutter.buffer).await? == 0 {
                 return Err(io::ErrorKind::UnexpectedEof.into());
             }

@@ -17,7 +17,7 @@ use std::sync::Arc;
 use std::time::Duration;
 
 use bytes::BytesMut;
-use hobbychair_cluster::parts::Malformed;
+use hobbychair_cluster::parts::{make_room, Malformed};
 use thiserror::Error;
 use tokio::io::{AsyncReadExt, AsyncWriteExt};
 use tokio::sync::mpsc;
@@ -77,7 +77,7 @@ impl Ended {
     }
 }
 
-/// No more is read from the pipe, or gathered for it, at once.
+/// No more is gathered for the pipe at once.
 const PIECE: usize = 256 * 1024;
 
 /// A program that ends so often and answers nothing in between isn't started again. What an ask does to it each time
@@ -276,7 +276,7 @@ impl Task {
                 }
             }
         }
-        self.incoming.reserve(PIECE);
+        make_room(&mut self.incoming);
         Ok(())
     }
 
