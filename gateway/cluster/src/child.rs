@@ -1,27 +1,25 @@
 //! A process of `cq server` or `cq master`, which is told frames and tells frames.
 //!
-//! Two threads of their own write to its pipe and read from it. So nobody here waits for the process, and what it tells
-//! is always read, as docs/PROCESSES.md asks for.
+//! Two tasks write to its pipe and read from it. So nobody here waits for the process, and what it tells is always read, as
+//! docs/PROCESSES.md asks for.
 
-use std::io::{self, Read, Write};
+use std::io;
 use std::os::unix::process::CommandExt;
-use std::process::{ChildStdin, ChildStdout, Command, ExitStatus, Stdio};
-use std::sync::mpsc::{channel, Receiver, Sender};
-use std::sync::{Arc, Mutex};
-use std::thread;
-use std::time::{Duration, Instant};
+use std::process::{Command, ExitStatus, Stdio};
+use std::time::Duration;
 
 use thiserror::Error;
+use tokio::io::{AsyncReadExt, AsyncWriteExt};
+use tokio::process::{self, ChildStdin, ChildStdout};
+use tokio::sync::mpsc::{unbounded_channel, UnboundedReceiver, UnboundedSender};
+use tokio::sync::oneshot;
+use tokio::time::timeout;
 
 use crate::commands::Response;
-use crate::lock;
 use crate::parts::{Cutter, FRAME_LIMIT};
 
 /// So much is written at once.
 const MOST_WRITTEN: usize = 1 << 20;
-
-/// So much is read at once.
-const CHUNK: usize = 256 << 10;
 
 /// So long a process that has closed its output has to end.
 const LAST_MOMENTS: Duration = Duration::from_secs(1);
@@ -45,12 +43,15 @@ pub enum Told {
 
 /// A running process. It is ended when this is dropped.
 pub struct Child {
-    input: Sender<Vec<u8>>,
-    process: Arc<Mutex<std::process::Child>>,
+    input: UnboundedSender<Vec<u8>>,
+    id: u32,
+    /// Nothing is sent by this: it is closed.
+    _wanted: oneshot::Sender<()>,
 }
 
 impl Child {
-    /// Starts the process. A thread calls `told` with what the process tells.
+    /// Starts the process. A task calls `told` with what the process tells. The system ends the process with the thread that
+    /// calls this.
     pub fn start(
         program: &str,
         words: &[String],
@@ -60,19 +61,15 @@ impl Child {
         let mut command = Command::new(program);
         command.args(words).stdin(Stdio::piped()).stdout(Stdio::piped()).process_group(0);
         end_with_this_process(&mut command);
-        let (input, frames) = channel();
-        let (started, starting) = channel();
-        // The system ends the child with the thread that started it: this one is there until the input is closed.
-        let keep = move || keep(command, &frames, &started);
-        thread::Builder::new().name("to cq".into()).spawn(keep).map_err(not_started)?;
-        let gone = |_| not_started(io::ErrorKind::BrokenPipe.into());
-        let (process, output) = starting.recv().map_err(gone)?.map_err(not_started)?;
-        let read = {
-            let process = process.clone();
-            move || read_all(output, &process, told)
-        };
-        thread::Builder::new().name("from cq".into()).spawn(read).map_err(not_started)?;
-        Ok(Child { input, process })
+        let mut process = process::Command::from(command).kill_on_drop(true).spawn().map_err(not_started)?;
+        let gone = || not_started(io::ErrorKind::BrokenPipe.into());
+        let id = process.id().ok_or_else(gone)?;
+        let (stdin, stdout) = process.stdin.take().zip(process.stdout.take()).ok_or_else(gone)?;
+        let (input, frames) = unbounded_channel();
+        let (wanted, unwanted) = oneshot::channel();
+        tokio::spawn(write_all(stdin, frames));
+        tokio::spawn(read_all(stdout, process, unwanted, told));
+        Ok(Child { input, id, _wanted: wanted })
     }
 
     /// Writes a frame, some time. What is given to a process that has ended is lost, and the end is told.
@@ -82,69 +79,52 @@ impl Child {
 
     /// The number by which the system knows the process.
     pub fn id(&self) -> u32 {
-        lock(&self.process).id()
+        self.id
     }
 }
 
-impl Drop for Child {
-    fn drop(&mut self) {
-        // One that has ended already needs no end.
-        let _ = lock(&self.process).kill();
-    }
-}
-
-type Started = (Arc<Mutex<std::process::Child>>, ChildStdout);
-
-/// Starts the process and writes what it is told, until nobody tells any more.
-fn keep(mut command: Command, frames: &Receiver<Vec<u8>>, started: &Sender<io::Result<Started>>) {
-    let begun = command.spawn().and_then(|mut process| {
-        let pipes = process.stdin.take().zip(process.stdout.take());
-        let (input, output) = pipes.ok_or(io::ErrorKind::BrokenPipe)?;
-        Ok((input, (Arc::new(Mutex::new(process)), output)))
-    });
-    match begun {
-        Ok((input, process)) => {
-            if started.send(Ok(process)).is_ok() {
-                write_all(input, frames);
-            }
-        }
-        Err(error) => drop(started.send(Err(error))),
-    }
-}
-
-fn write_all(mut input: ChildStdin, frames: &Receiver<Vec<u8>>) {
-    while let Ok(mut bytes) = frames.recv() {
+/// Writes what the process is told, until nobody tells any more. That the process has ended is told by who reads.
+async fn write_all(mut input: ChildStdin, mut frames: UnboundedReceiver<Vec<u8>>) {
+    while let Some(mut bytes) = frames.recv().await {
         while bytes.len() < MOST_WRITTEN {
             match frames.try_recv() {
                 Ok(more) => bytes.extend_from_slice(&more),
                 Err(_) => break,
             }
         }
-        if input.write_all(&bytes).is_err() {
-            // Its end is told by the other thread. This one stays, since the system ends the child with it.
-            while frames.recv().is_ok() {}
+        if input.write_all(&bytes).await.is_err() {
             return;
         }
     }
 }
 
-fn read_all(mut output: ChildStdout, process: &Mutex<std::process::Child>, mut told: impl FnMut(Told)) {
-    let why = match read_responses(&mut output, &mut told) {
-        Ok(()) => how_it_ended(process),
-        Err(error) => error.to_string(),
+/// Tells what the process tells, until that ends or isn't wanted any more. It is ended then.
+async fn read_all(
+    mut output: ChildStdout,
+    mut process: process::Child,
+    unwanted: oneshot::Receiver<()>,
+    mut told: impl FnMut(Told),
+) {
+    let read = async {
+        let why = match read_responses(&mut output, &mut told).await {
+            Ok(()) => how_it_ended(&mut process).await,
+            Err(error) => error.to_string(),
+        };
+        told(Told::Ended(why));
     };
-    told(Told::Ended(why));
+    tokio::select! {
+        () = read => {}
+        _ = unwanted => {}
+    }
 }
 
-fn read_responses(output: &mut ChildStdout, told: &mut impl FnMut(Told)) -> io::Result<()> {
+async fn read_responses(output: &mut ChildStdout, told: &mut impl FnMut(Told)) -> io::Result<()> {
     let mut cutter = Cutter::default();
-    let mut chunk = vec![0; CHUNK];
     loop {
-        let count = output.read(&mut chunk)?;
-        if count == 0 {
+        cutter.make_room();
+        if output.read_buf(&mut cutter.buffer).await? == 0 {
             return Ok(());
         }
-        cutter.buffer.extend_from_slice(&chunk[..count]);
         let mut read = Vec::new();
         while let Some(frame) = cutter.next(FRAME_LIMIT).map_err(other)? {
             read.push(Response::read(frame).map_err(other)?);
@@ -159,17 +139,12 @@ fn other(malformed: crate::parts::Malformed) -> io::Error {
     io::Error::new(io::ErrorKind::InvalidData, format!("what it told is no response: {malformed}"))
 }
 
-fn how_it_ended(process: &Mutex<std::process::Child>) -> String {
-    let begun = Instant::now();
-    while begun.elapsed() < LAST_MOMENTS {
-        match lock(process).try_wait() {
-            Ok(Some(status)) => return said(status),
-            Ok(None) => {}
-            Err(error) => return error.to_string(),
-        }
-        thread::sleep(Duration::from_millis(10));
+async fn how_it_ended(process: &mut process::Child) -> String {
+    match timeout(LAST_MOMENTS, process.wait()).await {
+        Ok(Ok(status)) => said(status),
+        Ok(Err(error)) => error.to_string(),
+        Err(_) => "it closed its output and went on".into(),
     }
-    "it closed its output and went on".into()
 }
 
 /// How a process ended.
@@ -204,34 +179,55 @@ mod tests {
     use super::*;
     use crate::parts::frame;
 
-    fn start(script: &str) -> (Child, Receiver<Told>) {
-        let (tell, told) = channel();
+    fn start(script: &str) -> (Child, UnboundedReceiver<Told>) {
+        let (tell, told) = unbounded_channel();
         let words = ["-c".to_string(), script.to_string()];
         let child = Child::start("/bin/sh", &words, move |one| drop(tell.send(one))).unwrap();
         (child, told)
     }
 
-    #[test]
-    fn what_is_given_comes_to_the_process_and_what_it_tells_comes_back() {
-        let (child, told) = start("exec cat");
-        for _ in 0..3 {
+    async fn next(told: &mut UnboundedReceiver<Told>) -> Option<Told> {
+        timeout(Duration::from_secs(10), told.recv()).await.unwrap()
+    }
+
+    #[tokio::test]
+    async fn what_is_given_comes_to_the_process_and_what_it_tells_comes_back() {
+        let (child, mut told) = start("exec cat");
+        // More than its pipes hold.
+        let given = 200_000;
+        for _ in 0..given {
             child.give(frame(6, |_| {}));
         }
         let mut heard = 0;
-        while heard < 3 {
-            match told.recv().unwrap() {
+        while heard < given {
+            match next(&mut told).await.unwrap() {
                 Told::Responses(responses) => heard += responses.iter().filter(|one| **one == Response::Heard).count(),
                 Told::Ended(why) => panic!("{why}"),
             }
         }
     }
 
-    #[test]
-    fn an_end_is_told_and_so_is_what_is_no_response() {
-        let (_child, told) = start("exit 3");
-        assert!(matches!(told.recv().unwrap(), Told::Ended(why) if why == "it ended with status 3"));
-        let (_child, told) = start("printf '\\2\\0\\0\\0\\1\\77'; sleep 60");
-        assert!(matches!(told.recv().unwrap(), Told::Ended(why) if why.contains("no response")));
+    #[tokio::test]
+    async fn an_end_is_told_and_so_is_what_is_no_response() {
+        let (_child, mut told) = start("exit 3");
+        assert!(matches!(next(&mut told).await, Some(Told::Ended(why)) if why == "it ended with status 3"));
+        let (_child, mut told) = start("printf '\\2\\0\\0\\0\\1\\77'; sleep 60");
+        assert!(matches!(next(&mut told).await, Some(Told::Ended(why)) if why.contains("no response")));
         assert!(Child::start("/nowhere/cq", &[], |_| {}).is_err());
+    }
+
+    #[tokio::test]
+    async fn who_is_not_wanted_any_more_is_ended() {
+        let (child, mut told) = start("trap '' HUP TERM; while :; do sleep 60; done");
+        let process = format!("/proc/{}", child.id());
+        assert!(std::path::Path::new(&process).exists());
+        drop(child);
+        assert!(next(&mut told).await.is_none());
+        // It is gone, or waits to be reaped.
+        let begun = std::time::Instant::now();
+        while std::fs::read_to_string(format!("{process}/stat")).is_ok_and(|stat| !stat.contains(") Z ")) {
+            assert!(begun.elapsed() < Duration::from_secs(10));
+            tokio::time::sleep(Duration::from_millis(10)).await;
+        }
     }
 }

@@ -17,7 +17,7 @@ use rustix::fs::{flock, FlockOperation};
 
 pub use reader::{find, Found, Unusable};
 pub use record::{Entry, Head, Known, Record, VERSION};
-pub use writer::{write_store, Writer, Written, LONGEST_BATCH};
+pub use writer::{NewStore, Writer, Written, LONGEST_BATCH};
 
 /// The name of a part of a journal has its number in so many digits at least.
 const DIGITS: usize = 6;

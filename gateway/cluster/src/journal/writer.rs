@@ -178,43 +178,30 @@ impl FrameFile {
 }
 
 /// A store that isn't whole yet.
-struct NewStore {
+pub struct NewStore {
     file: FrameFile,
     part: u64,
 }
 
 impl NewStore {
-    fn begin(folder: &Folder, part: u64, head: &Head) -> io::Result<NewStore> {
+    /// Begins that which is ahead of all segments from `part` on.
+    pub fn begin(folder: &Folder, part: u64, head: &Head) -> io::Result<NewStore> {
         Ok(NewStore { file: FrameFile::create(&folder.new_store(part), head, 1)?, part })
     }
 
     /// Each chunk is on the disk behind this, so that the last moment isn't a long one.
-    fn add(&mut self, chunk: Bytes) -> io::Result<()> {
+    pub fn add(&mut self, chunk: Bytes) -> io::Result<()> {
         self.file.append_record(&Record::Chunk(chunk), true)
     }
 
     /// The store gets its name. Tells its size.
-    fn end(mut self, folder: &Folder) -> io::Result<u64> {
+    pub fn end(mut self, folder: &Folder) -> io::Result<u64> {
         self.file.append_record(&Record::End, false)?;
         self.file.file.sync_all()?;
         fs::rename(&self.file.path, folder.store(self.part))?;
         folder.sync()?;
         Ok(self.file.end)
     }
-}
-
-/// Writes a store of that many entries as the first part of a journal.
-pub fn write_store(
-    folder: &Folder,
-    head: &Head,
-    mut next: impl FnMut() -> anyhow::Result<Option<Bytes>>,
-) -> anyhow::Result<()> {
-    let mut store = NewStore::begin(folder, 1, head)?;
-    while let Some(chunk) = next()? {
-        store.add(chunk)?;
-    }
-    store.end(folder)?;
-    Ok(())
 }
 
 /// All that the thread has.

@@ -113,7 +113,7 @@ async fn make(wanted: &Wanted, plan: &Plan, etcd: Etcd, guard: Guard) -> Result<
         count: taken.count,
         known: Known::default(),
     };
-    replay::write(taken, &wanted.program, &folder, &head)?;
+    replay::write(taken, &wanted.program, &folder, &head).await?;
     let made = Cluster::put(&wanted.cluster, etcd, settings, wanted.identity.clone(), guard).await?;
     let Some(cluster) = made else {
         bail!("nothing is recovered: the cluster in etcd was changed meanwhile. {} is of no use", folder.0.display());

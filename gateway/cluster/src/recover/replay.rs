@@ -1,10 +1,10 @@
 //! Makes the store of a journal: a server is given all of it, and tells the store.
 
 use std::collections::VecDeque;
-use std::sync::mpsc::{channel, Receiver};
 
 use anyhow::{bail, ensure, Context, Result};
 use bytes::Bytes;
+use tokio::sync::mpsc::{unbounded_channel, UnboundedReceiver};
 
 use crate::child::{Child, Told};
 use crate::commands::{Command, Response, Standing};
@@ -16,16 +16,16 @@ const MOST_OPEN: usize = 512;
 /// A server that is the only one of its chain.
 struct Server {
     child: Child,
-    told: Receiver<Told>,
+    told: UnboundedReceiver<Told>,
     responses: VecDeque<Response>,
 }
 
 /// Writes the store of a journal as the first part of another one.
-pub fn write(found: &Found, program: &str, folder: &Folder, head: &Head) -> Result<()> {
+pub async fn write(found: &Found, program: &str, folder: &Folder, head: &Head) -> Result<()> {
     let mut server = Server::start(program, found.store.is_some())?;
-    let begun = server.load(found)?;
+    let begun = server.load(found).await?;
     ensure!(begun.count == found.base, "cq server has {} entries, and the copy is made of {}", begun.count, found.base);
-    let standing = server.replay(found, begun)?;
+    let standing = server.replay(found, begun).await?;
     ensure!(
         (standing.count, standing.last) == (found.count, found.last),
         "cq server has {} entries, the last of moment {}, and the journal {} and {}",
@@ -34,14 +34,19 @@ pub fn write(found: &Found, program: &str, folder: &Folder, head: &Head) -> Resu
         found.count,
         found.last
     );
-    journal::write_store(folder, head, || server.next_chunk(found.count))
+    let mut store = journal::NewStore::begin(folder, 1, head)?;
+    while let Some(chunk) = server.next_chunk(found.count).await? {
+        store.add(chunk)?;
+    }
+    store.end(folder)?;
+    Ok(())
 }
 
 impl Server {
     fn start(program: &str, has_store: bool) -> Result<Server> {
         let mut words: Vec<String> = ["server", "--id", "1", "--first", "1"].map(String::from).to_vec();
         words.extend(has_store.then(|| "--load".into()));
-        let (tell, told) = channel();
+        let (tell, told) = unbounded_channel();
         let child = Child::start(program, &words, move |one| drop(tell.send(one)))?;
         Ok(Server { child, told, responses: VecDeque::new() })
     }
@@ -50,12 +55,12 @@ impl Server {
         self.child.give(command.frame());
     }
 
-    fn next(&mut self) -> Result<Response> {
+    async fn next(&mut self) -> Result<Response> {
         loop {
             if let Some(response) = self.responses.pop_front() {
                 return Ok(response);
             }
-            match self.told.recv().context("cq server is gone")? {
+            match self.told.recv().await.context("cq server is gone")? {
                 Told::Responses(responses) => self.responses.extend(responses),
                 Told::Ended(why) => bail!("cq server is gone: {why}"),
             }
@@ -63,17 +68,17 @@ impl Server {
     }
 
     /// The end of the next answer.
-    fn answer(&mut self) -> Result<Response> {
+    async fn answer(&mut self) -> Result<Response> {
         loop {
-            let response = self.next()?;
+            let response = self.next().await?;
             if response.is_last() {
                 return Ok(response);
             }
         }
     }
 
-    fn standing(&mut self) -> Result<Standing> {
-        match self.answer()? {
+    async fn standing(&mut self) -> Result<Standing> {
+        match self.answer().await? {
             Response::Done(standing) => Ok(standing),
             Response::Refused(code) | Response::Unread(code) => bail!("cq server refuses what it is given, by {code}"),
             other => bail!("cq server answers {other:?}"),
@@ -81,22 +86,22 @@ impl Server {
     }
 
     /// Gives it the store with which the journal begins, if it does.
-    fn load(&mut self, found: &Found) -> Result<Standing> {
+    async fn load(&mut self, found: &Found) -> Result<Standing> {
         if found.store.is_none() {
             return Ok(Standing::default());
         }
         let mut chunks = found.chunks()?;
         while let Some(chunk) = chunks.next()? {
             self.give(&Command::Load(chunk));
-            let answer = self.answer()?;
+            let answer = self.answer().await?;
             ensure!(answer == Response::Heard, "cq server doesn't take the copy of the store: {answer:?}");
         }
         self.give(&Command::Load(Bytes::new()));
-        self.standing()
+        self.standing().await
     }
 
     /// Gives it all entries. Says where it stands then.
-    fn replay(&mut self, found: &Found, begun: Standing) -> Result<Standing> {
+    async fn replay(&mut self, found: &Found, begun: Standing) -> Result<Standing> {
         let mut entries = found.entries(1);
         let (mut standing, mut open) = (begun, 0);
         loop {
@@ -107,7 +112,7 @@ impl Server {
                 open += 1;
             }
             while open >= MOST_OPEN || (is_over && open > 0) {
-                standing = self.standing()?;
+                standing = self.standing().await?;
                 open -= 1;
             }
             if is_over {
@@ -117,12 +122,12 @@ impl Server {
     }
 
     /// The next chunk of its store; none behind the last.
-    fn next_chunk(&mut self, count: u64) -> Result<Option<Bytes>> {
+    async fn next_chunk(&mut self, count: u64) -> Result<Option<Bytes>> {
         self.give(&Command::Save);
-        let response = self.next()?;
+        let response = self.next().await?;
         let Response::Saved { count: of, chunk } = response else { bail!("cq server tells no store: {response:?}") };
         ensure!(of == count, "cq server tells a store of {of} entries, and not of {count}");
-        self.standing()?;
+        self.standing().await?;
         Ok((!chunk.is_empty()).then_some(chunk))
     }
 }
