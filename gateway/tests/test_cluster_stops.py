@@ -103,6 +103,9 @@ def test_who_knows_more_of_the_log_than_etcd_has_waits(tmp_path):
         # For a candidate that knew of no line a server would have been silent for long enough by then.
         time.sleep(6)
         assert cluster.log() == [] and all(master.poll() is None for master in cluster.masters)
+        # That etcd was away was told before.
+        for log in [*logs, cluster.node(1).log, cluster.node(3).log]:
+            assert "its log has 0 lines" in log.read_text(), log
         answered(users)
         users.stop()
     finally:

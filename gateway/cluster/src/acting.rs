@@ -9,6 +9,7 @@ use anyhow::{ensure, Context, Result};
 use tokio::sync::{watch, Notify};
 use tokio::time::{sleep, timeout};
 
+use crate::contact::Contact;
 use crate::etcd::Operation;
 use crate::identity::{Fingerprint, Identity};
 use crate::records::{self, Chain, Cluster, Registration};
@@ -80,14 +81,14 @@ impl Follower {
 
 async fn follow(cluster: Cluster, acting: watch::Sender<Option<Acting>>, look: Arc<Notify>) {
     let mut known = BTreeMap::new();
-    let mut in_contact = true;
+    let mut contact = Contact::default();
     let about = About { cluster: cluster.name.clone(), incarnation: cluster.settings.incarnation.clone() };
     let mut witness = Witness::new(about, cluster.identity.clone());
     loop {
         match read(&cluster, &mut known).await {
             Ok(found) => {
                 witness.ping(&known);
-                if !std::mem::replace(&mut in_contact, true) {
+                if contact.regain() {
                     tracing::info!("in contact with etcd again");
                 }
                 if *acting.borrow() != found {
@@ -96,7 +97,7 @@ async fn follow(cluster: Cluster, acting: watch::Sender<Option<Acting>>, look: A
                 }
             }
             Err(error) => {
-                if std::mem::replace(&mut in_contact, false) {
+                if contact.lose(format!("{error:#}")) {
                     tracing::warn!("no contact with etcd, and requests go where they went: {error:#}");
                 }
             }

@@ -13,6 +13,7 @@ use tokio::time::{sleep, timeout};
 
 use crate::child::{Child, Told};
 use crate::commands::{Command, Party, Place, Response, NO_MEMORY};
+use crate::contact::Contact;
 use crate::decision::{Decision, Letter, View};
 use crate::etcd::{Entry, EtcdError, Guard, Operation};
 use crate::records::{self, last_number, server_and_number, Beat, Cluster, Line, Piece};
@@ -175,7 +176,7 @@ pub struct Master {
     silence: Silence,
     begun: Instant,
     why: Option<String>,
-    in_contact: bool,
+    contact: Contact,
     /// Servers whose next message `cq master` can't read.
     unreadable: BTreeSet<u32>,
 }
@@ -195,7 +196,7 @@ pub async fn run(cluster: Cluster, program: &str) -> Result<()> {
         silence: Silence::default(),
         begun: Instant::now(),
         why: None,
-        in_contact: true,
+        contact: Contact::default(),
         unreadable: BTreeSet::new(),
     };
     tracing::info!(cluster = %master.cluster.name, "a candidate for the master begins");
@@ -214,14 +215,14 @@ impl Master {
         let round = match self.read().await? {
             Ok(round) => round,
             Err(error) => {
-                if std::mem::replace(&mut self.in_contact, false) {
+                if self.contact.lose(error.to_string()) {
                     tracing::warn!(%error, "no contact with etcd");
                 }
                 sleep(Duration::from_millis(100)).await;
                 return Ok(true);
             }
         };
-        if !std::mem::replace(&mut self.in_contact, true) {
+        if self.contact.regain() {
             tracing::info!("in contact with etcd again");
         }
         let is_behind = round.lines.len() >= LINES as usize;

@@ -8,6 +8,7 @@ use anyhow::{Context, Result};
 use bytes::Bytes;
 use tokio::time::{sleep, timeout};
 
+use crate::contact::Contact;
 use crate::etcd::{Entry, Guard, Operation};
 use crate::records::{self, last_number, Beat, Chain, Piece, Registration};
 use crate::{lock, memory};
@@ -43,7 +44,7 @@ struct Membership {
     /// How many lines the log had.
     line: u64,
     chain: Option<Chain>,
-    in_contact: bool,
+    contact: Contact,
 }
 
 /// Beats and reads for good.
@@ -60,12 +61,12 @@ pub async fn keep(node: Arc<Shared>, joins: bool) {
         next_order: 1,
         line: 0,
         chain: None,
-        in_contact: true,
+        contact: Contact::default(),
     };
     loop {
         match membership.look().await {
             Ok(is_more) => {
-                if !std::mem::replace(&mut membership.in_contact, true) {
+                if membership.contact.regain() {
                     tracing::info!("in contact with etcd again");
                 }
                 if !is_more {
@@ -76,7 +77,7 @@ pub async fn keep(node: Arc<Shared>, joins: bool) {
             }
             Err(error) => {
                 membership.beaten = None;
-                if std::mem::replace(&mut membership.in_contact, false) {
+                if membership.contact.lose(format!("{error:#}")) {
                     tracing::warn!("no contact with etcd, and all goes on as it is: {error:#}");
                 }
                 sleep(Duration::from_millis(100)).await;
