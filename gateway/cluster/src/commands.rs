@@ -254,6 +254,8 @@ pub enum Message {
     },
     /// A piece of a snapshot that isn't its last.
     Chunk,
+    /// A server tells the one before it that an entry is with all behind.
+    Ack,
     Other,
 }
 
@@ -262,6 +264,7 @@ impl Message {
         let mut reader = Reader::of_frame(piece.clone())?;
         Ok(match reader.byte()? {
             1 => Message::Chunk,
+            2 => Message::Ack,
             9 => Message::Adopted { successor: reader.server()? },
             10 => Message::Caught { predecessor: reader.server()? },
             11 => Message::Ready,

@@ -10,7 +10,7 @@ use bytes::Bytes;
 use tokio::sync::Notify;
 use tokio::time::{interval, sleep, timeout, MissedTickBehavior};
 
-use crate::commands::Place;
+use crate::commands::{Message, Place};
 use crate::lock;
 use crate::node::{Event, Shared};
 use crate::parts::{Frames, FRAME_LIMIT};
@@ -33,6 +33,9 @@ const PING: Duration = Duration::from_millis(500);
 /// So much is written at once.
 const MOST_WRITTEN: usize = 1 << 20;
 
+/// So long an acknowledgement waits for others, or for whatever else there is to write. No answer waits for it.
+const GATHERING: Duration = Duration::from_millis(2);
+
 #[derive(Default)]
 struct Queue {
     /// Frames that the other end isn't known to have, with their numbers.
@@ -41,6 +44,10 @@ struct Queue {
     bytes: usize,
     /// The number of the last frame.
     last: u64,
+    /// Whoever writes knows that there is something.
+    is_told: bool,
+    /// There is something that doesn't wait.
+    is_urgent: bool,
     is_closed: bool,
 }
 
@@ -63,22 +70,28 @@ impl Link {
     }
 
     pub fn send_message(&self, place: Place, piece: Bytes) {
-        self.send(|frame| Frame::Message { frame, place, piece });
+        let is_urgent = !matches!(Message::read(&piece), Ok(Message::Ack));
+        self.send(is_urgent, |frame| Frame::Message { frame, place, piece });
     }
 
     pub fn send_gone(&self, server: u32) {
-        self.send(|frame| Frame::Gone { frame, server });
+        self.send(true, |frame| Frame::Gone { frame, server });
     }
 
-    fn send(&self, make: impl FnOnce(u64) -> Frame) {
+    fn send(&self, is_urgent: bool, make: impl FnOnce(u64) -> Frame) {
         let mut queue = lock(&self.queue);
         queue.last += 1;
         let number = queue.last;
         let frame = Bytes::from(make(number).bytes());
         queue.bytes += frame.len();
         queue.frames.push_back((number, frame));
+        let is_news = !queue.is_told || (is_urgent && !queue.is_urgent);
+        queue.is_told = true;
+        queue.is_urgent |= is_urgent;
         drop(queue);
-        self.wake.notify_one();
+        if is_news {
+            self.wake.notify_one();
+        }
     }
 
     /// How many frames the other end isn't known to have.
@@ -130,7 +143,8 @@ impl Link {
 
     /// The bytes of some frames behind that one, and the number of the last of them.
     fn behind(&self, sent: u64) -> (u64, Vec<u8>) {
-        let queue = lock(&self.queue);
+        let mut queue = lock(&self.queue);
+        (queue.is_told, queue.is_urgent) = (false, false);
         let (mut last, mut bytes) = (sent, Vec::new());
         let first = queue.frames.partition_point(|(number, _)| *number <= sent);
         for (number, frame) in queue.frames.range(first..) {
@@ -206,11 +220,27 @@ impl Link {
                     let ping = Frame::Ping { time: node.now() }.bytes();
                     timeout(QUIET, transport::write(&mut writing, &ping)).await??;
                 }
-                _ = self.wake.notified(), if bytes.is_empty() => {}
+                () = self.gather(), if bytes.is_empty() => {}
                 _ = std::future::ready(()), if !bytes.is_empty() => {}
             }
         }
         Ok(())
+    }
+
+    /// Waits until there is something to write.
+    async fn gather(&self) {
+        self.wake.notified().await;
+        let urgent = async {
+            while !self.is_urgent() {
+                self.wake.notified().await;
+            }
+        };
+        let _ = timeout(GATHERING, urgent).await;
+    }
+
+    fn is_urgent(&self) -> bool {
+        let queue = lock(&self.queue);
+        queue.is_urgent || queue.is_closed
     }
 
     async fn read(&self, mut reading: Frames<Reading>, node: &Shared) -> io::Result<()> {
@@ -231,4 +261,54 @@ async fn read(reading: &mut Frames<Reading>) -> io::Result<Frame> {
 
 fn other(why: &str) -> io::Error {
     io::Error::new(io::ErrorKind::Other, why)
+}
+
+#[cfg(test)]
+mod tests {
+    use super::*;
+
+    use tokio::time::Instant;
+
+    const ACK: &[u8] = &[1, 2, 0, 0, 0, 0, 0, 0, 0, 0];
+    const FORWARD: &[u8] = &[1, 0];
+
+    fn send(link: &Link, piece: &'static [u8]) {
+        link.send_message(Place { number: 1, index: 0 }, Bytes::from_static(piece));
+    }
+
+    /// How long it takes until something is to be written, and how many frames that is.
+    async fn gathered(link: &Link, sent: u64) -> (Duration, u64) {
+        let begun = Instant::now();
+        link.gather().await;
+        (begun.elapsed(), link.behind(sent).0 - sent)
+    }
+
+    #[tokio::test(start_paused = true)]
+    async fn acknowledgements_wait_for_others_and_nothing_else_does() {
+        let link = Link { to: 2, queue: Mutex::default(), wake: Notify::new(), is_awaited: AtomicBool::new(false) };
+        let begun = Instant::now();
+        send(&link, FORWARD);
+        assert_eq!(gathered(&link, 0).await, (Duration::ZERO, 1));
+        send(&link, ACK);
+        send(&link, ACK);
+        assert_eq!(gathered(&link, 1).await, (GATHERING, 2));
+        let (waited, ()) = tokio::join!(gathered(&link, 3), async {
+            send(&link, ACK);
+            sleep(GATHERING / 2).await;
+            send(&link, FORWARD);
+            send(&link, ACK);
+        });
+        assert_eq!(waited, (GATHERING / 2, 3));
+        let (waited, ()) = tokio::join!(gathered(&link, 6), async {
+            send(&link, ACK);
+            link.send_gone(7);
+        });
+        assert_eq!(waited, (Duration::ZERO, 2));
+        // It may be told twice of what was there, and no more often.
+        assert!(gathered(&link, 8).await.1 == 0);
+        assert!(timeout(Duration::from_secs(1), link.gather()).await.is_err());
+        let (waited, ()) = tokio::join!(gathered(&link, 8), async { link.close() });
+        assert_eq!(waited.0, Duration::ZERO);
+        assert!(begun.elapsed() < Duration::from_secs(2));
+    }
 }

@@ -38,6 +38,9 @@ const SAYING: Duration = Duration::from_secs(1);
 /// A link's connection on which nothing comes for so long is closed.
 const QUIET: Duration = Duration::from_secs(2);
 
+/// What has come by a link is acknowledged so much later, so that one frame is about much of it.
+const ACKNOWLEDGING: Duration = Duration::from_millis(5);
+
 /// A client that takes nothing for so long loses its connection.
 const WRITING: Duration = Duration::from_secs(10);
 
@@ -346,6 +349,7 @@ async fn link(
     let write = async {
         loop {
             acknowledging.wake.notified().await;
+            sleep(ACKNOWLEDGING).await;
             if acknowledging.is_over.load(Ordering::Acquire) {
                 return Err(other("its server was detected, or it has another connection"));
             }
