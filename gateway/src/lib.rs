@@ -11,6 +11,7 @@ mod answers;
 mod attributes;
 mod book;
 mod budget;
+mod calls;
 mod chain;
 mod clock;
 pub mod command_line;

@@ -418,7 +418,7 @@ async fn answer(settings: &Settings, started: Started, signals: &mut Signals) ->
     let budget = Budget::new(settings.request_memory);
     let (hosts, metrics) = (settings.hosts(), admin.metrics.clone());
     let service = Arc::new(Service::new(actions, keys.clone(), hosts, addresses, metrics, budget));
-    let door = Door { service, certificate: certificate.clone(), identity, places };
+    let door = Door::new(service, certificate.clone(), identity, places);
     let mut served = tokio::spawn(door.serve(listener, ending));
     admin.health.serves();
     notify_supervisor(sd_notify::NotifyState::Ready);

@@ -9,6 +9,8 @@ use hyper::http::uri::PathAndQuery;
 use hyper::{Body, Method, Request, Response, Uri, Version};
 use uuid::Uuid;
 
+use crate::calls::PassedOn;
+
 /// The name of a call, as SDKs give it: what has the same one is one call.
 static INVOCATION: HeaderName = HeaderName::from_static("amz-sdk-invocation-id");
 
@@ -54,6 +56,17 @@ pub struct Try {
     pub is_again: bool,
 }
 
+impl Try {
+    /// What a gateway is told of it.
+    pub fn said(self) -> Vec<(&'static HeaderName, HeaderValue)> {
+        let mut said = vec![(&UNTIL, HeaderValue::from(self.until))];
+        if self.is_again {
+            said.push((&AGAIN, HeaderValue::from_static("true")));
+        }
+        said
+    }
+}
+
 /// A request that can be asked again and again.
 pub struct Asked {
     method: Method,
@@ -70,6 +83,9 @@ impl Asked {
             return None;
         }
         take_those_of_connection(&mut headers);
+        // These are the front's own to say.
+        headers.remove(&UNTIL);
+        headers.remove(&AGAIN);
         // The body has one length, however it came.
         if headers.remove(CONTENT_LENGTH).is_some() || !body.is_empty() {
             headers.insert(CONTENT_LENGTH, body.len().into());
@@ -104,16 +120,15 @@ impl Asked {
         *request.uri_mut() = uri.build().ok()?;
         *request.version_mut() = Version::HTTP_11;
         *request.headers_mut() = self.headers.clone();
-        let headers = request.headers_mut();
-        headers.remove(&UNTIL);
-        headers.remove(&AGAIN);
-        if let Some(Try { until, is_again }) = tried {
-            headers.insert(&UNTIL, until.into());
-            if is_again {
-                headers.insert(&AGAIN, HeaderValue::from_static("true"));
-            }
+        for (name, value) in tried.into_iter().flat_map(Try::said) {
+            request.headers_mut().insert(name, value);
         }
         Some(request)
+    }
+
+    /// As it is passed on over a connection of calls.
+    pub fn passed_on<'a>(&'a self, added: &'a [(&'static HeaderName, HeaderValue)]) -> PassedOn<'a> {
+        PassedOn { method: &self.method, target: &self.target, headers: &self.headers, added, body: &self.body }
     }
 
     /// How many bytes its body has.
@@ -154,9 +169,10 @@ fn take_those_of_connection(headers: &mut HeaderMap) {
     let named = headers.get_all(CONNECTION).iter().filter_map(|value| value.to_str().ok());
     let named = named.flat_map(|value| value.split(',')).map(|name| name.trim().to_ascii_lowercase());
     let named: Vec<String> = named.filter(|name| !is_of_client(name)).collect();
-    for name in OF_CONNECTION.into_iter().chain(named.iter().map(String::as_str)) {
-        headers.remove(name);
-    }
+    let is_taken =
+        |name: &&HeaderName| OF_CONNECTION.contains(&name.as_str()) || named.iter().any(|one| one == name.as_str());
+    let taken: Vec<HeaderName> = headers.keys().filter(is_taken).cloned().collect();
+    taken.iter().for_each(|name| drop(headers.remove(name)));
 }
 
 #[cfg(test)]

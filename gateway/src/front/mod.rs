@@ -3,6 +3,7 @@
 mod headers;
 mod operators;
 mod passing;
+mod streams;
 mod testing;
 mod times;
 

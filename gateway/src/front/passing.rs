@@ -17,10 +17,12 @@ use tokio::sync::Mutex;
 use tokio::time::{sleep_until, timeout, Instant};
 
 use crate::budget::Share;
+use crate::calls::LONGEST_BODY;
 use crate::errors::SqsError;
 
 use super::headers::{as_answered, time_of, Asked, Try};
 use super::operators::Figures;
+use super::streams::Streams;
 use super::times::{milliseconds, Times};
 
 /// A request is asked again until so long after it came.
@@ -42,13 +44,19 @@ const TELLING: Duration = Duration::from_secs(2);
 const IDLE: Duration = Duration::from_secs(30);
 
 /// No answer is longer: ten messages in JSON have less.
-const LONGEST_ANSWER: usize = 64 << 20;
+pub const LONGEST_ANSWER: usize = 64 << 20;
 
 /// Why a try came to nothing.
 #[derive(Debug, Error)]
-enum Failed {
+pub enum Failed {
     #[error("{0}")]
     Connection(#[from] hyper::Error),
+    #[error("{0}")]
+    NoConnection(Box<dyn std::error::Error + Send + Sync>),
+    #[error("no connection to it could be opened")]
+    Unopened,
+    #[error("its connection has ended")]
+    Ended,
     #[error("it answers nothing")]
     Silent,
     #[error("it tells no time, so it isn't a gateway that acts")]
@@ -73,8 +81,9 @@ struct Wanted {
 /// Passes requests on to whichever gateway acts.
 pub struct Passing {
     follower: Follower,
+    streams: Streams,
     client: Client<Connector, Body>,
-    times: Times,
+    times: Arc<Times>,
     figures: Arc<Figures>,
     /// Held by the one who asks for the time.
     asking: Mutex<()>,
@@ -87,9 +96,11 @@ impl Passing {
         let connector = Connector::new(identity, Role::Node, CONNECTING).to_registered(move |uri| {
             known.acting().filter(|acting| is_at(uri, acting)).map(|acting| acting.certificate)
         });
+        let times = Arc::new(Times::default());
+        let streams = Streams::new(connector.clone(), times.clone());
         // What a client doesn't say of the host, nobody says in its place.
         let client = Client::builder().set_host(false).pool_idle_timeout(IDLE).build(connector);
-        Passing { follower, client, times: Times::default(), figures, asking: Mutex::default() }
+        Passing { follower, streams, client, times, figures, asking: Mutex::default() }
     }
 
     /// The answer of a gateway that acts, to a request that came at that moment.
@@ -146,10 +157,21 @@ impl Passing {
         share: &Share,
         Wanted { until, is_again }: Wanted,
     ) -> Result<Response<Bytes>, Failed> {
+        let stream = if asked.bytes() <= LONGEST_BODY { self.streams.to(acting).await? } else { None };
         let until = self.until(acting, until).await?;
-        let request = asked.at(acting.address, Some(Try { until, is_again })).ok_or(Failed::Unwritable)?;
+        let tried = Try { until, is_again };
+        let said = tried.said();
         let has_room = |bytes| share.try_set(asked.bytes() + bytes);
-        timeout(LONGEST_TRY, self.exchange(acting, request, has_room)).await.map_err(|_| Failed::Silent)?
+        let answered = async {
+            match stream {
+                Some(stream) => self.learn_time(acting, stream.ask(asked.passed_on(&said), has_room).await?),
+                None => {
+                    let request = asked.at(acting.address, Some(tried)).ok_or(Failed::Unwritable)?;
+                    self.exchange(acting, request, has_room).await
+                }
+            }
+        };
+        timeout(LONGEST_TRY, answered).await.map_err(|_| Failed::Silent)?
     }
 
     /// The moment until which an answer is wanted, in the cluster's time. It is never later than meant.
@@ -172,6 +194,16 @@ impl Passing {
         Ok(())
     }
 
+    fn learn_time<B>(&self, acting: Acting, response: Response<B>) -> Result<Response<B>, Failed> {
+        match time_of(&response) {
+            Some(time) => self.times.learn(acting.server, time, Instant::now()),
+            // Its store is gone, so that it knows of no time any more.
+            None if response.status() == StatusCode::SERVICE_UNAVAILABLE => return Err(Failed::NoTime),
+            None => {}
+        }
+        Ok(response)
+    }
+
     /// Asks once, and learns the time of the answer. There has to be room for what was read of it.
     async fn exchange(
         &self,
@@ -179,13 +211,7 @@ impl Passing {
         request: Request<Body>,
         has_room: impl Fn(usize) -> bool,
     ) -> Result<Response<Bytes>, Failed> {
-        let response = self.client.request(request).await?;
-        match time_of(&response) {
-            Some(time) => self.times.learn(acting.server, time, Instant::now()),
-            // Its store is gone, so that it knows of no time any more.
-            None if response.status() == StatusCode::SERVICE_UNAVAILABLE => return Err(Failed::NoTime),
-            None => {}
-        }
+        let response = self.learn_time(acting, self.client.request(request).await?)?;
         let (head, mut body) = response.into_parts();
         let mut whole = BytesMut::new();
         while let Some(piece) = body.data().await {

@@ -11,6 +11,7 @@ use hobbychair_cluster::identity::{Identity, Role};
 use hyper::header::{HeaderValue, CONNECTION};
 use hyper::server::conn::Http;
 use hyper::service::service_fn;
+use hyper::upgrade::OnUpgrade;
 use hyper::{Body, Request, Response};
 use tokio::io::{AsyncRead, AsyncWrite};
 use tokio::net::{TcpListener, TcpSocket, TcpStream};
@@ -20,15 +21,12 @@ use tokio_rustls::server::TlsStream;
 
 use super::places::Places;
 use super::watched::{Progress, Watched};
-use super::{answers, Admitted, Arrival, Connection, Service, LONGEST_HEAD};
+use super::{answers, calls, Admitted, Arrival, Connection, Service, LONGEST_HEAD, LONGEST_REQUEST};
 use crate::ending::Ending;
 use crate::tls::{Certificate, LONGEST_HANDSHAKE};
 
 /// How many connections may wait to be accepted.
 const BACKLOG: u32 = 4096;
-
-/// A request is whole so long after its first byte.
-const LONGEST_REQUEST: Duration = Duration::from_secs(30);
 
 /// A client that is turned away has so long for its request.
 const LONGEST_TURNING_AWAY: Duration = Duration::from_secs(5);
@@ -59,15 +57,27 @@ fn listen_at(address: SocketAddr) -> io::Result<TcpListener> {
 
 /// How connections are taken in.
 pub struct Door {
-    pub service: Arc<Service>,
-    pub certificate: Option<Arc<Certificate>>,
+    service: Arc<Service>,
+    certificate: Option<Arc<Certificate>>,
     /// What the fronts of a cluster are shown, where they alone are served.
-    pub identity: Option<Arc<Identity>>,
+    identity: Option<Arc<Identity>>,
     /// How many are served at once, and how many above that are told so at once. More wait until these have ended.
-    pub places: Places,
+    places: Places,
+    /// As many calls of fronts are answered at once.
+    calls: Arc<Semaphore>,
 }
 
 impl Door {
+    pub fn new(
+        service: Arc<Service>,
+        certificate: Option<Arc<Certificate>>,
+        identity: Option<Arc<Identity>>,
+        places: Places,
+    ) -> Door {
+        let calls = Arc::new(Semaphore::new(places.served as usize));
+        Door { service, certificate, identity, places, calls }
+    }
+
     /// Serves connections until the end comes, and then until all have ended.
     pub async fn serve(self, listener: TcpListener, mut ending: Ending) {
         let most = self.places.served;
@@ -139,10 +149,13 @@ impl Door {
         let progress = Progress::new(if is_served { LONGEST_REQUEST } else { LONGEST_TURNING_AWAY }).of_socket(socket);
         let stream = Watched::new(stream, progress.clone());
         let requests = self.service.clone().connection(peer, progress.clone());
-        let handle = service_fn(move |request| handle(requests.clone(), request, is_served));
+        let handle = {
+            let requests = requests.clone();
+            service_fn(move |request| handle(requests.clone(), request, is_served))
+        };
         let mut http = Http::new();
         http.http1_only(true).max_buf_size(LONGEST_HEAD);
-        let connection = http.serve_connection(stream, handle);
+        let connection = http.serve_connection(stream, handle).with_upgrades();
         tokio::pin!(connection);
         let ended = tokio::select! {
             ended = connection.as_mut() => ended,
@@ -156,9 +169,25 @@ impl Door {
             }
             () = never_begun(is_served) => return,
         };
+        let ended = match requests.take_upgrade() {
+            Some(upgrading) => self.serve_calls::<S>(upgrading, peer, ending).await,
+            None => ended.map_err(Into::into),
+        };
         if let Err(error) = ended {
             tracing::debug!(%peer, "a connection ended: {error}");
         }
+    }
+
+    /// Serves the calls of a front, which have the connection from now on.
+    async fn serve_calls<S>(&self, upgrading: OnUpgrade, peer: SocketAddr, ending: Ending) -> anyhow::Result<()>
+    where
+        S: AsyncRead + AsyncWrite + Unpin + Send + 'static,
+    {
+        let other = |_| io::Error::from(io::ErrorKind::Unsupported);
+        let parts = upgrading.await?.downcast::<Watched<S>>().map_err(other)?;
+        let shared = (peer, self.calls.clone());
+        calls::serve(parts.io.into_inner(), parts.read_buf, self.service.clone(), shared, ending).await?;
+        Ok(())
     }
 }
 
@@ -171,7 +200,14 @@ async fn take_in(identity: &Identity, stream: TcpStream) -> io::Result<TlsStream
 }
 
 /// Answers a request.
-async fn handle(connection: Arc<Connection>, request: Request<Body>, is_served: bool) -> io::Result<Response<Body>> {
+async fn handle(
+    connection: Arc<Connection>,
+    mut request: Request<Body>,
+    is_served: bool,
+) -> io::Result<Response<Body>> {
+    if is_served && calls::are_asked_for(&request) && connection.is_of_chain() {
+        return Ok(connection.begin_calls(hyper::upgrade::on(&mut request)));
+    }
     let began = Instant::now();
     let arrival = Arrival { began, deadline: connection.progress.deadline(began) };
     if !is_served {

@@ -3,6 +3,7 @@
 mod address;
 mod answers;
 pub mod bodies;
+mod calls;
 mod connections;
 mod framing;
 mod places;
@@ -11,12 +12,13 @@ mod visitor;
 mod watched;
 
 use std::net::SocketAddr;
-use std::sync::Arc;
-use std::time::SystemTime;
+use std::sync::{Arc, Mutex, PoisonError};
+use std::time::{Duration, SystemTime};
 
 use bytes::Bytes;
 use hyper::header::{HeaderMap, HeaderName, HeaderValue, AUTHORIZATION, CONNECTION, CONTENT_TYPE};
 use hyper::http::request::Parts;
+use hyper::upgrade::OnUpgrade;
 use hyper::{Body, Request, Response, StatusCode};
 use tokio::time::Instant;
 use uuid::Uuid;
@@ -57,6 +59,9 @@ static QUERY_ERROR: HeaderName = HeaderName::from_static("x-amzn-query-error");
 /// The longest head of a request, in bytes.
 pub const LONGEST_HEAD: usize = 32 << 10;
 
+/// A request is whole so long after its first byte.
+const LONGEST_REQUEST: Duration = Duration::from_secs(30);
+
 /// What all connections share.
 pub struct Service {
     actions: Actions,
@@ -77,6 +82,8 @@ struct Connection {
     /// What its request counts for the budget.
     share: Arc<Share>,
     host: KnownHost,
+    /// A front has asked for calls on it, which begin once it is that.
+    upgrading: Mutex<Option<OnUpgrade>>,
 }
 
 /// When a request began, and when it has to be whole.
@@ -148,14 +155,19 @@ impl Service {
     /// What a connection's requests have in common. A connection has one open at a time.
     fn connection(self: Arc<Service>, peer: SocketAddr, progress: Progress) -> Arc<Connection> {
         let share = Arc::new(self.budget.share());
-        Arc::new(Connection { service: self, peer, progress, share, host: KnownHost::default() })
+        let (host, upgrading) = (KnownHost::default(), Mutex::default());
+        Arc::new(Connection { service: self, peer, progress, share, host, upgrading })
     }
 
-    /// Tells a front the chain's time. Where the store is gone it is told none: it asks the next gateway.
-    fn tell_time(&self, response: &mut Response<Bytes>) {
+    /// The chain's time, for fronts. Where the store is gone there is none: a front asks the next gateway then.
+    fn time_for_fronts(&self) -> Option<u64> {
         let store = self.actions.store();
-        if store.is_of_chain() && !store.is_gone() {
-            response.headers_mut().insert(&TIME, store.clock().now().into());
+        (store.is_of_chain() && !store.is_gone()).then(|| store.clock().now())
+    }
+
+    fn tell_time<B>(&self, response: &mut Response<B>) {
+        if let Some(time) = self.time_for_fronts() {
+            response.headers_mut().insert(&TIME, time.into());
         }
     }
 
@@ -175,6 +187,23 @@ impl Service {
 }
 
 impl Connection {
+    fn is_of_chain(&self) -> bool {
+        self.service.actions.store().is_of_chain()
+    }
+
+    /// A front gets a connection of calls: this one, from its answer on.
+    fn begin_calls(&self, upgrading: OnUpgrade) -> Response<Body> {
+        *self.upgrading.lock().unwrap_or_else(PoisonError::into_inner) = Some(upgrading);
+        let mut response = calls::begin();
+        self.service.tell_time(&mut response);
+        response
+    }
+
+    /// What becomes of the connection, where a front has asked for calls.
+    fn take_upgrade(&self) -> Option<OnUpgrade> {
+        self.upgrading.lock().unwrap_or_else(PoisonError::into_inner).take()
+    }
+
     /// Admits a request: its body is read, and what it asks for. Whatever comes in, there is an answer, in the protocol
     /// that the request speaks.
     async fn admit(self: Arc<Connection>, arrival: Arrival, request: Request<Body>) -> Admitted {
@@ -219,7 +248,7 @@ impl Connection {
             if action.returns_urls() { service.addresses.base_url(&head.headers, self.peer) } else { String::new() };
         self.share.set(request.bytes_kept(body.len()));
         let (request, request_id) = (Box::new(request), log.request_id);
-        let is_of_chain = service.actions.store().is_of_chain();
+        let is_of_chain = self.is_of_chain();
         let until = is_of_chain.then(|| text_of(&head.headers, &UNTIL)?.parse().ok()).flatten();
         let asked_before = is_of_chain && head.headers.contains_key(&AGAIN);
         let digest = None;

@@ -193,6 +193,11 @@ impl<S> Watched<S> {
         Watched { stream, progress, late: None, stalled: None, end_of_answer: None, unread: None }
     }
 
+    /// The stream, of which nothing is watched any more.
+    pub fn into_inner(self) -> S {
+        self.stream
+    }
+
     /// Nothing has come. Tells whether a part of a request is there, and the rest of it is late, or it is so for too long.
     fn is_late(&mut self, context: &mut Context<'_>) -> bool {
         self.progress.awaits().is_some_and(|end| is_over(&mut self.late, end, context))
