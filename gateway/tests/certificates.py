@@ -5,6 +5,7 @@ from __future__ import annotations
 import os
 import ssl
 import subprocess
+from dataclasses import dataclass
 from pathlib import Path
 
 from started import gateway_program
@@ -82,3 +83,63 @@ class Certificates:
              "-startdate", begins, "-enddate", ends, "-extensions", "extensions", "-in", "request", "-out", f"../{name}.pem"],
         ]:
             subprocess.run(["openssl", *words], cwd=room, check=True, capture_output=True, env={"PATH": os.environ["PATH"]})
+
+
+@dataclass
+class Chain:
+    """A certificate with its key, and those that come with it, of no authority that anybody believes."""
+
+    certificates: Path
+    key: Path
+
+    def client(self, authority: Path) -> ssl.SSLContext:
+        """One who shows it, and believes that authority."""
+        context = ssl.create_default_context(cafile=str(authority))
+        context.load_cert_chain(self.certificates, self.key)
+        return context
+
+    def server(self) -> ssl.SSLContext:
+        context = ssl.SSLContext(ssl.PROTOCOL_TLS_SERVER)
+        context.load_cert_chain(self.certificates, self.key)
+        return context
+
+
+def self_signed(folder: Path, name: str, subject: str, *extensions: str) -> str:
+    """Makes a certificate and its key in the folder, which nobody else has signed, and tells its text."""
+    words = [f"[req]\nprompt = no\ndistinguished_name = subject\nx509_extensions = extensions\n[subject]\n{subject}\n[extensions]\n"]
+    (folder / f"{name}.settings").write_text("\n".join([*words, *extensions, ""]))
+    subprocess.run(["openssl", "req", "-x509", "-config", f"{name}.settings", "-newkey", "ed25519", "-nodes", "-days", "2",
+                    "-keyout", f"{name}.key", "-out", f"{name}.pem"], cwd=folder, check=True, capture_output=True)
+    return (folder / f"{name}.pem").read_text()
+
+
+def der(tag: int, content: bytes) -> bytes:
+    """One value of DER."""
+    length = len(content)
+    digits = length.to_bytes((length.bit_length() + 7) // 8, "big")
+    return bytes([tag, *([length] if length < 0x80 else [0x80 | len(digits), *digits])]) + content
+
+
+def chain_of_one_name(folder: Path, others: int) -> Chain:
+    """So many others come with it. All have one name, and each has a key of its own: so by their names each may have signed any
+    other, and there are as many ways over them as they have orders."""
+    folder.mkdir(exist_ok=True)
+    own = self_signed(folder, "own", "CN = a", "basicConstraints = critical,CA:FALSE")
+    authority = "basicConstraints = critical,CA:TRUE"
+    shown = [own, *(self_signed(folder, f"other{number}", "CN = a", authority) for number in range(others))]
+    (folder / "chain.pem").write_text("".join(shown))
+    return Chain(folder / "chain.pem", folder / "own.key")
+
+
+def chain_of_many_names(folder: Path, names: int, constraints: int) -> Chain:
+    """A certificate of so many names that comes with two others, each of which excludes so many: whoever looks for a way over them
+    compares each name with each of these, and that on each way."""
+    folder.mkdir(exist_ok=True)
+    alternative = der(0x30, b"".join(der(0x82, b"a") for _ in range(names)))
+    # One sequence more than the standard has it: so webpki 0.22.0 reads it.
+    excluded = der(0x30, der(0xa1, der(0x30, b"".join(der(0x30, der(0x82, b"b")) for _ in range(constraints)))))
+    own = self_signed(folder, "own", "CN = a", f"subjectAltName = DER:{alternative.hex()}")
+    authority = ["basicConstraints = critical,CA:TRUE", f"2.5.29.30 = critical,DER:{excluded.hex()}"]
+    others = [self_signed(folder, f"other{number}", "CN = a", *authority) for number in range(2)]
+    (folder / "chain.pem").write_text("".join([own, *others]))
+    return Chain(folder / "chain.pem", folder / "own.key")

@@ -11,6 +11,7 @@ import ssl
 import struct
 import subprocess
 import threading
+import time
 import urllib.error
 import urllib.request
 from collections.abc import Iterator
@@ -19,10 +20,10 @@ from pathlib import Path
 import pytest
 
 import started
-from certificates import Certificates, make
+from certificates import Certificates, Chain, chain_of_many_names, chain_of_one_name, make
 from cluster_oracle import check
 from cluster_users import AWAY, FRONT, LINK, PING, STANDING, WELCOME, Users, about, frame, frames, greeting
-from clusters import NAME, Cluster, Etcd, free_ports, has_etcd, run, wait
+from clusters import NAME, Cluster, Etcd, Proxy, free_ports, has_etcd, run, wait
 from started import Started, boto3_client, gateway_program, program
 
 pytestmark = pytest.mark.skipif(not has_etcd(), reason="etcd isn't there: Debian's etcd-server has it")
@@ -53,6 +54,12 @@ def of_another_cluster(certificates) -> str:
     done = make("--cluster", "another", "--folder", str(certificates.folder), "--role", "node", "--name", "another")
     assert done.returncode == 0, done.stderr
     return "another"
+
+
+@pytest.fixture(scope="module")
+def strange(tmp_path_factory) -> Chain:
+    """A certificate that comes with 14 others, over which there are more ways than anybody can try."""
+    return chain_of_one_name(tmp_path_factory.mktemp("strange"), 14)
 
 
 def refused(*words: str) -> str:
@@ -290,6 +297,133 @@ def test_who_is_asked_by_a_front_shows_what_was_registered(served, certificates)
                 urllib.request.urlopen(url, b"Action=ListQueues", timeout=1)
             wait(10, lambda: "it shows another certificate than was registered" in log.read_text(), "not logged")
             assert heard == [], "it was told something"
+        finally:
+            front.kill()
+            front.wait()
+            cluster.etcd.write(key, json.dumps(was, separators=(",", ":")))
+    served.goes_on()
+
+
+# ---- chains of certificates that take long to verify
+
+TOO_MANY = "its certificate isn't taken: it comes with 14 others, and at most 2 are looked at"
+
+
+def processor_time(process: int) -> float:
+    """What a process has used so far, in seconds."""
+    fields = Path(f"/proc/{process}/stat").read_text().rsplit(")", 1)[1].split()
+    return (int(fields[11]) + int(fields[12])) / os.sysconf("SC_CLK_TCK")
+
+
+class Attack:
+    """Strangers who show that chain again and again, until the end of this."""
+
+    def __init__(self, port: int, context: ssl.SSLContext, name: str) -> None:
+        self.port, self.context, self.name, self.goes_on = port, context, name, True
+        self.threads = [threading.Thread(target=self.run) for _ in range(3)]
+
+    def run(self) -> None:
+        while self.goes_on:
+            assert asked(self.port, self.context, self.name, b"a")[0] == -1
+
+    def __enter__(self) -> Attack:
+        for thread in self.threads:
+            thread.start()
+        return self
+
+    def __exit__(self, *_) -> None:
+        self.goes_on = False
+        for thread in self.threads:
+            thread.join()
+
+
+def quick(what) -> None:
+    begun = time.monotonic()
+    assert what()
+    assert time.monotonic() - begun < 1, "a stranger holds others up"
+
+
+def test_a_chain_of_many_certificates_holds_no_node_up(served, certificates, strange):
+    node, name = served.cluster.node(1), certificates.name_of("node")
+    context = strange.client(certificates.file("authority.pem"))
+    used = processor_time(node.process.pid)
+    with logged(node.log, TOO_MANY):
+        assert asked(node.port, context, name, b"a")[0] == -1
+    assert processor_time(node.process.pid) - used < 0.3
+    believed, hello = certificates.client("node1"), greeting(served.cluster, 5000, 5000)
+    with Attack(node.port, context, name):
+        for _ in range(20):
+            quick(lambda: asked(node.port, believed, name, hello)[0] == STANDING)
+    served.goes_on()
+
+
+def test_nor_does_one_of_many_names_with_constraints_on_names(served, certificates, tmp_path):
+    """Each name would be compared with each constraint."""
+    node, name = served.cluster.node(1), certificates.name_of("node")
+    context = chain_of_many_names(tmp_path, 2500, 700).client(certificates.file("authority.pem"))
+    used = processor_time(node.process.pid)
+    with logged(node.log, "its certificate isn't taken: one that comes with it constrains names, which isn't supported"):
+        for _ in range(10):
+            assert asked(node.port, context, name, b"a")[0] == -1
+    assert processor_time(node.process.pid) - used < 0.5
+
+
+def test_nor_the_gateway_of_the_head(served, certificates, strange):
+    node, name = served.cluster.node(1), certificates.name_of("node")
+    context = strange.client(certificates.file("authority.pem"))
+    used = processor_time(node.gateway())
+    with logged(node.log, TOO_MANY):
+        assert asked(node.gateway_port, context, name, b"a")[0] == -1
+    assert processor_time(node.gateway()) - used < 0.3
+    believed = certificates.client("front")
+    with Attack(node.gateway_port, context, name):
+        for _ in range(20):
+            quick(lambda: get(f"https://127.0.0.1:{node.gateway_port}/", believed) == 400)
+    served.goes_on()
+
+
+@pytest.mark.parametrize("role", ["front", "master"])
+def test_nor_whoever_is_shown_it_by_a_false_etcd(served, certificates, strange, tmp_path, role):
+    """The good etcd is away for a while, and there is a false one where another member is to be."""
+    cluster, log, [port] = served.cluster, tmp_path / "log", free_ports(1)
+    proxy = Proxy(cluster.etcd.urls[0])
+    which = [f"{proxy.url},https://127.0.0.1:{port}" if word in cluster.etcd.urls else word for word in cluster.which(role)]
+    words = ["serve", *which, "--port", "0"] if role == "front" else ["master", *which]
+    environment = {**os.environ, "HOBBYCHAIR_CQ": program()}
+    with open(log, "wb") as out, Stranger(port, strange.server(), lambda _: b""):
+        process = subprocess.Popen([gateway_program(), *words], env=environment, stdout=out, stderr=out)
+        try:
+            begun = "requests go to the gateway of the head" if role == "front" else "a candidate for the master begins"
+            wait(10, lambda: begun in log.read_text(), "it doesn't begin")
+            used = processor_time(process.pid)
+            proxy.cut()
+            wait(5, lambda: TOO_MANY in log.read_text(), "not logged")
+            if role == "front":
+                wait(5, lambda: "listening on " in log.read_text(), "it doesn't listen")
+                url = next(line.split()[-1] for line in log.read_text().splitlines() if line.startswith("listening on "))
+                for _ in range(20):
+                    quick(lambda: urllib.request.urlopen(url, b"Action=ListQueues", timeout=10).status == 200)
+            proxy.mend()
+            wait(5, lambda: "in contact with etcd again" in log.read_text(), "it doesn't find the good one again")
+            assert processor_time(process.pid) - used < 2
+        finally:
+            process.kill()
+            process.wait()
+            proxy.end()
+
+
+def test_nor_a_front_that_is_shown_it_by_a_false_node(served, certificates, strange, tmp_path):
+    cluster, log = served.cluster, tmp_path / "log"
+    key, was, [port] = f"{cluster.root}/node/{2:010}", registration(cluster, 2), free_ports(1)
+    with open(log, "wb") as out, Stranger(port, strange.server(), lambda _: b""):
+        cluster.etcd.write(key, json.dumps(was | {"address": f"127.0.0.1:{port}"}))
+        front = subprocess.Popen(started.command("--port", "0", *cluster.which("front")), stdout=out, stderr=out)
+        try:
+            wait(10, lambda: "listening on " in log.read_text(), "the front doesn't begin")
+            url = next(line.split()[-1] for line in log.read_text().splitlines() if line.startswith("listening on "))
+            wait(10, lambda: f"no contact with a server server=2 error={TOO_MANY}" in log.read_text(), "not logged")
+            for _ in range(20):
+                quick(lambda: urllib.request.urlopen(url, b"Action=ListQueues", timeout=10).status == 200)
         finally:
             front.kill()
             front.wait()

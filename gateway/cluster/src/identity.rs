@@ -4,6 +4,8 @@
 //! other: so one of another cluster, or of another role, isn't taken. Which process of a role it is of, its fingerprint says,
 //! which stands beside the number of a server in etcd.
 
+mod bounds;
+
 use std::fmt;
 use std::io;
 use std::path::PathBuf;
@@ -13,7 +15,7 @@ use std::time::{Duration, SystemTime};
 use anyhow::{anyhow, bail, Result};
 use clap::{Args, ValueEnum};
 use rustls::client::{NoClientSessionStorage, ResolvesClientCert};
-use rustls::server::{AllowAnyAuthenticatedClient, ClientHello, NoServerSessionStorage, ResolvesServerCert};
+use rustls::server::{ClientHello, NoServerSessionStorage, ResolvesServerCert};
 use rustls::sign::CertifiedKey;
 use rustls::{Certificate, ClientConfig, RootCertStore, ServerConfig, ServerName, SignatureScheme};
 use serde::{Deserialize, Serialize};
@@ -196,11 +198,12 @@ impl Identity {
             roots.add(certificate).map_err(|error| anyhow!("the authority's certificate can't be used: {error}"))?;
         }
         // Each connection is verified by itself: none goes on from an earlier one.
-        let client = ClientConfig::builder().with_safe_defaults().with_root_certificates(roots.clone());
+        let client = ClientConfig::builder().with_safe_defaults();
+        let client = client.with_custom_certificate_verifier(bounds::Servers::of(roots.clone()));
         let mut client = client.with_client_cert_resolver(Arc::new(Own(own.clone())));
         client.session_storage = Arc::new(NoClientSessionStorage {});
         let server = ServerConfig::builder().with_safe_defaults();
-        let server = server.with_client_cert_verifier(AllowAnyAuthenticatedClient::new(roots));
+        let server = server.with_client_cert_verifier(bounds::Clients::of(roots));
         let mut server = server.with_cert_resolver(Arc::new(Own(own.clone())));
         server.session_storage = Arc::new(NoServerSessionStorage {});
         let (client, server) = (Arc::new(client), Arc::new(server));
@@ -209,7 +212,11 @@ impl Identity {
 
     /// Whether others would take the own certificate: better said at the start than by each of them.
     fn test_own(&self, roles: &[Role]) -> Result<()> {
-        let own = self.peer(&self.own.cert[0]);
+        let (first, others) = self.own.cert.split_first().ok_or_else(|| anyhow!("it isn't there"))?;
+        if let Some(why) = bounds::refusal(first, others) {
+            bail!("others would refuse it: {why}");
+        }
+        let own = self.peer(first);
         self.verify_own(SystemTime::now(), own.is(Role::Node)).map_err(said_of_own)?;
         if roles.is_empty() || roles.iter().any(|role| own.is(*role)) {
             return Ok(());

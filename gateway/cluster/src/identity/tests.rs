@@ -1,4 +1,5 @@
 use std::path::Path;
+use std::process::Command;
 
 use tokio::io::{AsyncReadExt, AsyncWriteExt};
 use tokio::net::TcpListener;
@@ -42,6 +43,52 @@ impl Folder {
         make(&wanted(&self.0, cluster, roles, Some(name))).unwrap();
         self.files(name).identity(cluster, roles).unwrap().unwrap()
     }
+}
+
+/// Runs openssl in a folder.
+fn openssl(folder: &Path, words: &str) {
+    let done = Command::new("openssl").args(words.split(' ')).current_dir(folder).output().unwrap();
+    assert!(done.status.success(), "{words}: {}", String::from_utf8_lossy(&done.stderr));
+}
+
+/// Makes a certificate of that name in a folder, which another one of these has signed.
+fn sign(folder: &Path, name: &str, issuer: &str, extensions: &str) {
+    std::fs::write(folder.join("extensions"), extensions).unwrap();
+    let key = "-newkey ec -pkeyopt ec_paramgen_curve:P-256 -nodes";
+    openssl(folder, &format!("req -new {key} -keyout {name}.key -out {name}.request -subj /CN={name}"));
+    let signed = format!("-CA {issuer}.pem -CAkey {issuer}.key -set_serial 7 -days 2 -extfile extensions");
+    openssl(folder, &format!("x509 -req -in {name}.request -out {name}.pem {signed}"));
+}
+
+/// The files of a node's certificate with which so many others come: each has signed the one before it, and the folder's
+/// authority the last.
+fn chained(folder: &Folder, others: usize, names: &[String]) -> IdentityFiles {
+    chained_by(folder, others, names, "")
+}
+
+/// The same, where those that come with it have more extensions.
+fn chained_by(folder: &Folder, others: usize, names: &[String], more: &str) -> IdentityFiles {
+    let mut issuers = vec!["authority".to_string()];
+    for number in 0..others {
+        let name = format!("{others}-{number}");
+        let extensions = format!("basicConstraints = critical,CA:TRUE\nkeyUsage = critical,keyCertSign\n{more}");
+        sign(&folder.0, &name, &issuers[0], &extensions);
+        issuers.insert(0, name);
+    }
+    let own = format!("chained-{others}-{}", names.len());
+    let names: Vec<String> = names.iter().map(|name| format!("DNS:{name}")).collect();
+    sign(&folder.0, &own, &issuers[0], &format!("subjectAltName = {}", names.join(",")));
+    let shown = [own.clone()].into_iter().chain(issuers.into_iter().take(others));
+    let shown = shown.map(|name| std::fs::read_to_string(folder.0.join(format!("{name}.pem"))).unwrap());
+    std::fs::write(folder.0.join(format!("{own}.pem")), shown.collect::<String>()).unwrap();
+    folder.files(&own)
+}
+
+/// What these files make, though others would refuse it.
+fn untested(files: &IdentityFiles) -> Identity {
+    let read = |path: &Option<PathBuf>| Pem::read(path.as_ref().unwrap()).unwrap();
+    let pems = Pems { certificate: read(&files.certificate), key: read(&files.key), authority: read(&files.authority) };
+    Identity::new("one", pems).unwrap()
 }
 
 /// What the client and the server say of a connection from the one to the other, each of which sends the other a byte.
@@ -125,6 +172,64 @@ fn strange_client(folder: &Folder, strange: &Folder) -> Pems {
         key: read(strange, "node.key"),
         authority: read(folder, "authority.pem"),
     }
+}
+
+#[tokio::test]
+async fn two_others_come_with_a_certificate_and_no_more() {
+    let folder = Folder::new();
+    let node = folder.make("one", &[Role::Node], "node");
+    let names = [Role::Node.name("one")];
+    let two = chained(&folder, 2, &names).identity("one", &[Role::Node]).unwrap().unwrap();
+    for (client, server) in [(&two, &node), (&node, &two)] {
+        let (connected, accepted) = meet(client, server, Role::Node, None).await;
+        connected.unwrap();
+        accepted.unwrap();
+    }
+    // All of these are good.
+    let files = chained(&folder, 3, &names);
+    let why = "it comes with 3 others, and at most 2 are looked at";
+    are_refused(&untested(&files), &node, why).await;
+    let said = files.identity("one", &[Role::Node]).map(|_| ()).unwrap_err().to_string();
+    assert!(said.ends_with(&format!("chained-3-1.pem: others would refuse it: {why}")), "{said}");
+}
+
+#[tokio::test]
+async fn certificates_of_many_names_are_not_looked_at() {
+    let folder = Folder::new();
+    let node = folder.make("one", &[Role::Node], "node");
+    let names = |count| {
+        let others = (0..count).map(|number| format!("host-{number:04}.example.com"));
+        others.chain([Role::Node.name("one")]).collect::<Vec<_>>()
+    };
+    let some = chained(&folder, 0, &names(200)).identity("one", &[Role::Node]).unwrap().unwrap();
+    let (connected, accepted) = meet(&some, &node, Role::Node, None).await;
+    assert!(connected.is_ok() && accepted.is_ok());
+    let many = chained(&folder, 0, &names(800));
+    let bytes = untested(&many).own.cert[0].0.len();
+    let why = format!("it and its others have {bytes} bytes, and at most 16384 are looked at");
+    are_refused(&untested(&many), &node, &why).await;
+    assert!(many.identity("one", &[]).map(|_| ()).unwrap_err().to_string().ends_with(&why));
+}
+
+#[tokio::test]
+async fn what_comes_with_a_certificate_constrains_no_names() {
+    let folder = Folder::new();
+    let node = folder.make("one", &[Role::Node], "node");
+    let permitted = "nameConstraints = critical,permitted;DNS:hobbychair.internal";
+    let files = chained_by(&folder, 1, &[Role::Node.name("one")], permitted);
+    let why = "one that comes with it constrains names, which isn't supported";
+    are_refused(&untested(&files), &node, why).await;
+    assert!(files.identity("one", &[]).map(|_| ()).unwrap_err().to_string().ends_with(why));
+}
+
+/// Neither as a client nor as a server one is taken, and the other end says why.
+async fn are_refused(shown: &Identity, node: &Identity, why: &str) {
+    let (connected, accepted) = meet(shown, node, Role::Node, None).await;
+    assert_eq!(accepted.unwrap_err(), format!("its certificate isn't taken: {why}"));
+    assert!(connected.is_err());
+    let (connected, accepted) = meet(node, shown, Role::Node, None).await;
+    assert_eq!(connected.unwrap_err(), format!("its certificate isn't taken: {why}"));
+    assert!(accepted.unwrap_err().starts_with("the other end ends TLS"));
 }
 
 #[tokio::test]
