@@ -122,10 +122,10 @@ def kill_all(cluster: Cluster, with_etcd: bool = False) -> None:
 
 
 def recover(cluster: Cluster, sources: list[Path], journal: Path, *words: str) -> tuple[int, str]:
-    """The command's status, and all that it says."""
+    """The command's status, and all that it says. All processes are gone, unless it is told how long none may beat."""
+    words = words if {"--fenced", "--silence"} & {*words} else ("--fenced", *words)
     given = [word for source in sources for word in ("--from", str(source))]
-    which = ["--cluster", NAME, "--etcd", ",".join(cluster.etcd.urls)]
-    done = run("cluster", "recover", *which, *given, "--journal", str(journal), *words, timeout=120)
+    done = run("cluster", "recover", *cluster.which("master"), *given, "--journal", str(journal), *words, timeout=120)
     return done.returncode, done.stdout + done.stderr
 
 

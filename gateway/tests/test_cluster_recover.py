@@ -212,8 +212,9 @@ def test_a_dry_run_says_what_is_taken_and_changes_nothing(lost, tmp_path):
 
 def test_a_cluster_that_goes_on_is_not_recovered(lost):
     lost.users.stop()
-    said = lost.refused(sources=[lost.room])
-    assert "nodes of this cluster go on" in said, said
+    said = lost.refused("--silence", "3", sources=[lost.room])
+    at = [f"server {server} at 127.0.0.1:{lost.cluster.port(server)}" for server in (1, 2, 3)]
+    assert f"nodes of this cluster go on: {', '.join(at)}. To recover it, stop all" in said, said
     wait(10, lambda: acts(lost.cluster, 3), "it doesn't act any more")
 
 

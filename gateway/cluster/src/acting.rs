@@ -2,19 +2,22 @@
 
 use std::collections::btree_map::{BTreeMap, Entry};
 use std::net::SocketAddr;
-use std::sync::Arc;
+use std::sync::{Arc, Mutex};
 use std::time::Duration;
 
-use anyhow::{ensure, Context, Result};
+use anyhow::{Context, Result};
 use tokio::sync::{watch, Notify};
 use tokio::time::{sleep, timeout};
 
+use crate::clock::since_start;
 use crate::contact::Contact;
 use crate::etcd::Operation;
 use crate::identity::{Fingerprint, Identity};
-use crate::records::{self, Chain, Cluster, Registration};
+use crate::lock;
+use crate::records::{self, Chain, Cluster, Registration, Replaced};
+use crate::suspension::Suspension;
 use crate::wire::About;
-use crate::witness::Witness;
+use crate::witness::{Reach, Witness};
 
 /// So often etcd is looked at where nothing calls for it.
 const ROUND: Duration = Duration::from_millis(500);
@@ -37,6 +40,18 @@ pub struct Acting {
 pub struct Follower {
     acting: watch::Receiver<Option<Acting>>,
     look: Arc<Notify>,
+    suspension: Arc<Suspension>,
+    /// Why nothing is passed on any more.
+    ended: watch::Receiver<Option<String>>,
+    reach: Arc<Reach>,
+    /// Why there is no contact with etcd, if there is none.
+    away: Arc<Mutex<Option<String>>>,
+}
+
+/// What the task that follows tells.
+struct Told {
+    acting: watch::Sender<Option<Acting>>,
+    ended: watch::Sender<Option<String>>,
 }
 
 impl Follower {
@@ -44,17 +59,23 @@ impl Follower {
     /// error says why it isn't found.
     pub async fn begin(name: &str, urls: &[String], identity: Option<Arc<Identity>>) -> Result<Follower> {
         let cluster = Cluster::find(name, urls, identity).await?.for_long();
-        let (sender, acting) = watch::channel(None);
+        let ((tell_acting, acting), (tell_end, ended)) = (watch::channel(None), watch::channel(None));
         let look = Arc::new(Notify::new());
-        tokio::spawn(cluster.etcd.clone().watch(cluster.keys.chain(), look.clone()));
-        tokio::spawn(follow(cluster, sender, look.clone()));
-        Ok(Follower { acting, look })
+        let suspension = Arc::new(Suspension::new(look.clone()));
+        let (reach, away) = Default::default();
+        let follower = Follower { acting, look, suspension, ended, reach, away };
+        let told = Told { acting: tell_acting, ended: tell_end };
+        tokio::spawn(cluster.etcd.clone().watch(cluster.keys.chain(), follower.look.clone()));
+        tokio::spawn(follower.suspension.clone().keep_noting());
+        tokio::spawn(follow(cluster, told, follower.clone()));
+        Ok(follower)
     }
 
     /// One that is told who acts by a test.
     pub fn for_tests() -> (watch::Sender<Option<Acting>>, Follower) {
-        let (sender, acting) = watch::channel(None);
-        (sender, Follower { acting, look: Arc::default() })
+        let ((sender, acting), (_, ended)) = (watch::channel(None), watch::channel(None));
+        let (suspension, (look, reach, away)) = (Arc::new(Suspension::never()), Default::default());
+        (sender, Follower { acting, look, suspension, ended, reach, away })
     }
 
     /// The gateway that acts; nothing before it is known, or where the head has none.
@@ -73,36 +94,77 @@ impl Follower {
         }
     }
 
+    /// Why etcd can't be looked at, where it can't.
+    pub fn why_away(&self) -> Option<String> {
+        lock(&self.away).clone()
+    }
+
+    /// The gateway of that server was heard: all servers are told that it is reached.
+    pub fn hear(&self, server: u32) {
+        self.reach.hear(server);
+    }
+
     /// Has etcd looked at at once: the gateway that is known doesn't answer.
     pub fn look(&self) {
         self.look.notify_one();
     }
+
+    /// Waits until an answer may be given to a client: at once, unless this process stood still and hasn't looked at etcd
+    /// since. Where the cluster is another one now, that is never.
+    pub async fn may_answer(&self) {
+        self.suspension.pass().await;
+    }
+
+    /// Waits until the cluster is another one, and says so. No answer is given any more.
+    pub async fn ends(&self) -> String {
+        let mut ended = self.ended.clone();
+        loop {
+            if let Some(why) = ended.borrow_and_update().clone() {
+                return why;
+            }
+            if ended.changed().await.is_err() {
+                return std::future::pending().await;
+            }
+        }
+    }
 }
 
-async fn follow(cluster: Cluster, acting: watch::Sender<Option<Acting>>, look: Arc<Notify>) {
+async fn follow(cluster: Cluster, told: Told, follower: Follower) {
     let mut known = BTreeMap::new();
     let mut contact = Contact::default();
     let about = About { cluster: cluster.name.clone(), incarnation: cluster.settings.incarnation.clone() };
-    let mut witness = Witness::new(about, cluster.identity.clone());
+    let mut witness = Witness::new(about, cluster.identity.clone(), follower.reach.clone());
     loop {
-        match read(&cluster, &mut known).await {
+        let begun = since_start();
+        let read = read(&cluster, &mut known).await;
+        let has_read = read.is_ok();
+        match read {
             Ok(found) => {
+                follower.reach.know_head(found.map(|found| found.server));
                 witness.ping(&known);
+                *lock(&follower.away) = None;
                 if contact.regain() {
                     tracing::info!("in contact with etcd again");
                 }
-                if *acting.borrow() != found {
+                if *told.acting.borrow() != found {
                     tell_of(found);
-                    acting.send_replace(found);
+                    told.acting.send_replace(found);
                 }
             }
+            Err(error) if error.is::<Replaced>() => {
+                follower.suspension.end();
+                told.ended.send_replace(Some(error.to_string()));
+                return;
+            }
             Err(error) => {
+                *lock(&follower.away) = Some(format!("{error:#}"));
                 if contact.lose(format!("{error:#}")) {
                     tracing::warn!("no contact with etcd, and requests go where they went: {error:#}");
                 }
             }
         }
-        let _ = timeout(ROUND, look.notified()).await;
+        follower.suspension.looked(begun, has_read);
+        let _ = timeout(ROUND, follower.look.notified()).await;
         sleep(SHORTEST).await;
     }
 }
@@ -134,7 +196,6 @@ async fn read(cluster: &Cluster, known: &mut BTreeMap<u32, Registration>) -> Res
 }
 
 async fn get<T: for<'de> serde::Deserialize<'de>>(cluster: &Cluster, key: String) -> Result<Option<T>> {
-    let outcome = cluster.etcd.transact(&[cluster.guard()], &[Operation::Get(key)], &[]).await?;
-    ensure!(outcome.succeeded, "the cluster of this name is another one now");
-    outcome.read.first().and_then(|found| found.first()).map(records::value).transpose()
+    let read = cluster.read(&[Operation::Get(key)]).await?;
+    read.first().and_then(|found| found.first()).map(records::value).transpose()
 }

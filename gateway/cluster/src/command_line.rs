@@ -2,6 +2,7 @@
 
 use std::net::SocketAddr;
 use std::path::PathBuf;
+use std::time::Duration;
 
 use anyhow::{bail, Result};
 use clap::{ArgGroup, Args, Subcommand};
@@ -136,6 +137,12 @@ pub enum OfCluster {
         /// Do it though something may be lost
         #[arg(long)]
         force: bool,
+        /// All of its nodes, gateways and fronts are stopped, or cut off for good: wait for no silence, and ask nobody
+        #[arg(long)]
+        fenced: bool,
+        /// How many seconds no node may beat before anything is done
+        #[arg(long, value_name = "SECONDS", default_value = "60", conflicts_with = "fenced")]
+        silence: u64,
         /// Say what would be taken, and change nothing
         #[arg(long)]
         dry_run: bool,
@@ -227,13 +234,26 @@ pub fn run_cluster(asked: OfCluster, program: Option<String>) -> Result<()> {
                 status::log(&which.find(&[]).await?).await?.iter().for_each(|line| say(line));
                 Ok(())
             }
-            OfCluster::Recover { which, from, journal, incarnation, force, dry_run, .. } => {
+            OfCluster::Recover { which, from, journal, incarnation, force, fenced, silence, dry_run, .. } => {
                 let identity = which.files.identity(&which.cluster, &[])?;
                 let program = program.unwrap_or_else(|| "cq".into());
                 let (cluster, etcd) = (which.cluster, which.etcd);
-                let (is_forced, is_dry) = (force, dry_run);
-                let wanted = Wanted { cluster, etcd, identity, from, journal, incarnation, is_forced, is_dry, program };
-                recover::recover(&wanted).await
+                let (is_forced, is_dry, is_fenced) = (force, dry_run, fenced);
+                let silence = Duration::from_secs(silence);
+                recover::recover(&Wanted {
+                    cluster,
+                    etcd,
+                    identity,
+                    from,
+                    journal,
+                    incarnation,
+                    is_forced,
+                    is_dry,
+                    is_fenced,
+                    silence,
+                    program,
+                })
+                .await
             }
             OfCluster::Certificates(wanted) => {
                 certificates::make(&wanted)?.iter().for_each(|line| say(line));

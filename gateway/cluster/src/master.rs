@@ -73,7 +73,7 @@ impl Core {
     /// What is put behind a line, or the number of its refusal.
     async fn feed(&mut self, line: &Line) -> Result<Result<Vec<Order>, u32>> {
         let (command, gone) = match line {
-            Line::Detect { server } => (Command::Detect(*server), Some(*server)),
+            Line::Detect { server, .. } => (Command::Detect(*server), Some(*server)),
             Line::Join { server } => (Command::Join(*server), None),
             Line::Take { server, number, piece: Piece(piece) } => {
                 let place = Place { number: *number, index: 0 };
@@ -278,15 +278,13 @@ impl Master {
             Operation::all(&keys.all_condemned()),
             Operation::Get(keys.chain()),
         ];
-        let outcome = match self.cluster.etcd.transact(&[self.cluster.guard()], &operations, &[]).await {
-            Ok(outcome) => outcome,
-            Err(error) => return Ok(Err(error)),
+        let read = match self.cluster.read(&operations).await {
+            Ok(read) => read,
+            // What other error there is ends it.
+            Err(error) => return error.downcast::<EtcdError>().map(Err),
         };
-        if !outcome.succeeded {
-            bail!("the cluster {} isn't the one with which this candidate began", self.cluster.name);
-        }
         let [lines, letters, beats, condemned, chain]: [Vec<Entry>; 5] =
-            outcome.read.try_into().ok().context("etcd answers with too little")?;
+            read.try_into().ok().context("etcd answers with too little")?;
         let line = chain.first().map(records::value::<records::Chain>).transpose()?.map_or(0, |chain| chain.line);
         if line < self.roster.line {
             let said = format!("its log has {line} lines, and {} were there before", self.roster.line);
@@ -310,6 +308,9 @@ impl Master {
         };
         tracing::info!(line = self.roster.line + 1, "{}", records::text(&line));
         self.roster.feed(&line, orders.iter().map(|order| (order.server, order.number)));
+        if let Line::Detect { unserved: true, .. } = line {
+            self.silence.head_was_given_up();
+        }
         self.lines.push(line);
         Ok(())
     }

@@ -6,6 +6,7 @@ use std::sync::Arc;
 use anyhow::{anyhow, bail, Context, Result};
 use bytes::Bytes;
 use serde::{Deserialize, Serialize};
+use thiserror::Error;
 
 use crate::etcd::{behind, Entry, Etcd, Guard, Operation};
 use crate::identity::{Fingerprint, Identity};
@@ -91,6 +92,9 @@ impl Chain {
 pub enum Line {
     Detect {
         server: u32,
+        /// It was the head, and its gateway didn't serve. All candidates know by this when that happened last.
+        #[serde(default, skip_serializing_if = "is_false")]
+        unserved: bool,
     },
     Join {
         server: u32,
@@ -101,6 +105,13 @@ pub enum Line {
         number: u64,
         piece: Piece,
     },
+}
+
+impl Line {
+    /// A server is given up, for something else than its gateway.
+    pub fn detect(server: u32) -> Line {
+        Line::Detect { server, unserved: false }
+    }
 }
 
 /// The bytes of a message, which stand in JSON by base64.
@@ -149,9 +160,21 @@ pub struct Beat {
     /// So many bytes its server's process has in memory.
     #[serde(default)]
     pub memory: u64,
+    /// What fronts in contact say of the ports of gateways, if they say something.
+    #[serde(default, skip_serializing_if = "Option::is_none")]
+    pub witnesses: Option<Witnesses>,
     /// How far the gateway beside it is, if it is the head and has one.
     #[serde(default, skip_serializing_if = "Option::is_none")]
     pub gateway: Option<GatewayPhase>,
+    /// Whether a gateway would begin beside it, as far as that was tried.
+    #[serde(default, skip_serializing_if = "Option::is_none")]
+    pub readiness: Option<Readiness>,
+    /// That gateways end beside it that have hardly served, if they do.
+    #[serde(default, skip_serializing_if = "Option::is_none")]
+    pub failing: Option<Failing>,
+    /// While the head's gateway takes up the store: a number that changes as long as it moves on.
+    #[serde(default, skip_serializing_if = "Option::is_none")]
+    pub reading: Option<u64>,
     /// Why the master is asked to do without it, if it is.
     #[serde(default, skip_serializing_if = "Option::is_none")]
     pub condemned: Option<String>,
@@ -174,13 +197,42 @@ impl Disk {
     }
 }
 
+/// What the fronts in contact with a node say of the ports of gateways: those that take the same server for the head as the node.
+#[derive(Clone, Copy, Debug, PartialEq, Eq, Serialize, Deserialize)]
+pub struct Witnesses {
+    pub head: u32,
+    /// So many reach the port of the head's gateway.
+    pub reach_head: usize,
+    /// So many reach the port of the gateway beside this node.
+    pub reach_this: usize,
+}
+
+/// Whether a gateway would begin.
+#[derive(Clone, Debug, PartialEq, Eq, Serialize, Deserialize)]
+#[serde(rename_all = "snake_case")]
+pub enum Readiness {
+    /// Its options and files are good, and its port is kept for it.
+    Ready,
+    /// Something isn't, and this is what.
+    Unready(String),
+}
+
+/// Gateways that ended, one after the other.
+#[derive(Clone, Debug, PartialEq, Eq, Serialize, Deserialize)]
+pub struct Failing {
+    /// So many, since one served for a while.
+    pub times: u32,
+    /// How the last one ended.
+    pub why: String,
+}
+
 /// How far the gateway is that a head's node has started.
 #[derive(Clone, Copy, Debug, PartialEq, Eq, Serialize, Deserialize)]
 #[serde(rename_all = "snake_case")]
 pub enum GatewayPhase {
-    /// It is being started, or told the store.
+    /// It is being started, or takes up the store.
     Begins,
-    /// It has the store, and says that it works.
+    /// It says that it serves.
     Acts,
 }
 
@@ -356,6 +408,27 @@ pub fn text(value: &impl Serialize) -> String {
     serde_json::to_string(value).unwrap_or_default()
 }
 
+/// Another incarnation stands under the cluster's name. Nothing that anybody acknowledges who belongs to the earlier one is in
+/// that: whoever reads this acknowledges nothing any more, and ends.
+#[derive(Debug, Error)]
+#[error(
+    "cluster {name} is another one now, of incarnation {incarnation}: {how}. This process is of an earlier one: start it again, \
+     a node with --join"
+)]
+pub struct Replaced {
+    name: String,
+    incarnation: String,
+    how: &'static str,
+}
+
+/// What is read of the settings of another incarnation, which may be of another version.
+#[derive(Deserialize)]
+struct OfAnother {
+    incarnation: String,
+    #[serde(default)]
+    recovered: Option<serde_json::Value>,
+}
+
 /// A cluster that is there.
 #[derive(Clone)]
 pub struct Cluster {
@@ -406,19 +479,19 @@ impl Cluster {
         let settings =
             Settings { version: VERSION, incarnation: random_name(), servers, has_certificates, recovered: None };
         let guard = Guard::IsAbsent(Cluster::key(name));
-        match Cluster::put(name, etcd, settings, identity, guard).await? {
+        match Cluster::put(name, etcd, settings, identity, &[guard]).await? {
             Some(cluster) => Ok(cluster),
             None => bail!("there is a cluster {name} already"),
         }
     }
 
-    /// Makes a cluster with these settings, if the guard holds.
+    /// Makes a cluster with these settings, if the guards hold.
     pub async fn put(
         name: &str,
         etcd: Etcd,
         settings: Settings,
         identity: Option<Arc<Identity>>,
-        guard: Guard,
+        guards: &[Guard],
     ) -> Result<Option<Cluster>> {
         let keys = Keys::new(name, &settings.incarnation);
         let put = [
@@ -426,7 +499,7 @@ impl Cluster {
             Operation::Put(keys.next(), (settings.servers + 1).to_string()),
             Operation::Put(keys.chain(), text(&Chain::first(settings.servers))),
         ];
-        let outcome = etcd.transact(&[guard], &put, &[Operation::Get(keys.cluster.clone())]).await?;
+        let outcome = etcd.transact(guards, &put, &[Operation::Get(keys.cluster.clone())]).await?;
         // An earlier answer may have been lost on its way.
         let is_own = || outcome.read.iter().flatten().any(|found| found.value == text(&settings));
         let is_there = outcome.succeeded || is_own();
@@ -444,6 +517,33 @@ impl Cluster {
     /// That this cluster is still the one of its name.
     pub fn guard(&self) -> Guard {
         Guard::Is(self.keys.cluster.clone(), text(&self.settings))
+    }
+
+    /// What these read at one moment. An error where this cluster isn't the one of its name then, as [`Cluster::test`] has it.
+    pub async fn read(&self, operations: &[Operation]) -> Result<Vec<Vec<Entry>>> {
+        let otherwise = [Operation::Get(self.keys.cluster.clone())];
+        let outcome = self.etcd.transact(&[self.guard()], operations, &otherwise).await?;
+        if !outcome.succeeded {
+            self.test(outcome.read.first().and_then(|found| found.first()))?;
+            bail!("etcd answers with something else than it was asked");
+        }
+        Ok(outcome.read)
+    }
+
+    /// Whether this cluster is still the one of its name, by what stands there. Where another incarnation does, the error is
+    /// [`Replaced`]. Any other error says nothing of that: of data that are gone etcd may be given a copy, and requests go on
+    /// meanwhile as they do where etcd is away.
+    pub fn test(&self, found: Option<&Entry>) -> Result<()> {
+        let Some(found) = found else { bail!("etcd knows no cluster {} any more", self.name) };
+        if found.value == text(&self.settings) {
+            return Ok(());
+        }
+        let other: OfAnother = value(found)?;
+        if other.incarnation == self.settings.incarnation {
+            bail!("what etcd says of cluster {} was changed", self.name);
+        }
+        let how = if other.recovered.is_some() { "it was recovered" } else { "it was made anew" };
+        Err(Replaced { name: self.name.clone(), incarnation: other.incarnation, how }.into())
     }
 }
 
@@ -501,6 +601,65 @@ mod tests {
         let beat = Beat { gateway: Some(GatewayPhase::Acts), ..Beat::default() };
         assert!(text(&beat).ends_with(r#""gateway":"acts"}"#) && !text(&Beat::default()).contains("gateway"));
         assert_eq!(serde_json::from_str::<Beat>(&text(&Beat::default())).unwrap(), Beat::default());
+    }
+
+    #[test]
+    fn another_incarnation_is_told_from_settings_that_are_gone() {
+        let settings = Settings {
+            version: VERSION,
+            incarnation: "a".into(),
+            servers: 3,
+            has_certificates: false,
+            recovered: None,
+        };
+        let etcd = Etcd::new(&["http://127.0.0.1:1".into()], None).unwrap();
+        let (name, keys) = ("c".to_string(), Keys::new("c", "a"));
+        let cluster = Cluster { name, etcd, settings: settings.clone(), keys, identity: None };
+        let read = |value: &str| {
+            let found = Entry { key: cluster.keys.cluster.clone(), value: value.into(), revision: 1 };
+            cluster.test(Some(&found)).map_err(|error| (error.is::<Replaced>(), error.to_string()))
+        };
+        assert_eq!(read(&text(&settings)), Ok(()));
+        let recovered = Some(Recovered { incarnation: "a".into(), count: 7 });
+        let (is_replaced, said) =
+            read(&text(&Settings { incarnation: "b".into(), recovered, ..settings.clone() })).unwrap_err();
+        assert!(
+            is_replaced && said.starts_with("cluster c is another one now, of incarnation b: it was recovered."),
+            "{said}"
+        );
+        // Of a version of which nothing else is known.
+        let (is_replaced, said) = read(r#"{"version":9,"incarnation":"b","x":1}"#).unwrap_err();
+        assert!(is_replaced && said.contains("it was made anew"), "{said}");
+        let changed = read(&text(&Settings { servers: 2, ..settings })).unwrap_err();
+        assert_eq!(changed, (false, "what etcd says of cluster c was changed".into()));
+        assert!(!read("{").unwrap_err().0 && !read("{}").unwrap_err().0);
+        let absent = cluster.test(None).unwrap_err();
+        assert!(!absent.is::<Replaced>() && absent.to_string() == "etcd knows no cluster c any more");
+    }
+
+    #[test]
+    fn a_beat_says_of_a_gateway_what_there_is_to_say() {
+        let (witnesses, readiness) =
+            (Some(Witnesses { head: 1, reach_head: 0, reach_this: 2 }), Some(Readiness::Ready));
+        let failing = Some(Failing { times: 3, why: "it ended with status 1".into() });
+        let beat = Beat { witnesses, readiness, failing, reading: Some(7), ..Beat::default() };
+        let said = r#""witnesses":{"head":1,"reach_head":0,"reach_this":2},"readiness":"ready","failing":{"times":3,"why":"it ended with status 1"},"reading":7}"#;
+        assert!(text(&beat).ends_with(said), "{}", text(&beat));
+        let unready = Beat { readiness: Some(Readiness::Unready("no keys".into())), ..Beat::default() };
+        assert!(text(&unready).ends_with(r#""readiness":{"unready":"no keys"}}"#), "{}", text(&unready));
+        for one in [beat, unready] {
+            assert_eq!(serde_json::from_str::<Beat>(&text(&one)).unwrap(), one);
+        }
+    }
+
+    #[test]
+    fn a_line_says_of_a_head_that_its_gateway_did_not_serve() {
+        assert_eq!(text(&Line::detect(3)), r#"{"detect":{"server":3}}"#);
+        let unserved = Line::Detect { server: 3, unserved: true };
+        assert_eq!(text(&unserved), r#"{"detect":{"server":3,"unserved":true}}"#);
+        for line in [Line::detect(3), unserved] {
+            assert_eq!(serde_json::from_str::<Line>(&text(&line)).unwrap(), line);
+        }
     }
 
     #[test]

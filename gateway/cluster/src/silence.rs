@@ -8,7 +8,7 @@ use std::time::Duration;
 use crate::cut::{Cut, Unheard};
 use crate::records::{Beat, DISK_HANGS};
 use crate::roster::Roster;
-use crate::unreached::Unreached;
+use crate::serving::{self, Fault, Serving};
 
 /// A server whose beat hasn't changed for so long of contact with etcd is silent.
 pub const SILENT: Duration = Duration::from_secs(2);
@@ -44,7 +44,7 @@ pub struct Silence {
     /// Servers that have never beaten: since when they are looked for, by the time of contact.
     missing: BTreeMap<u32, Duration>,
     unheard: Unheard,
-    unreached: Unreached,
+    serving: Serving,
 }
 
 impl Silence {
@@ -74,9 +74,9 @@ impl Silence {
         let mut unheard = std::mem::take(&mut self.unheard);
         unheard.look(roster, self.contact, |one, other| self.hears(one, other, roster, began));
         self.unheard = unheard;
-        let mut unreached = std::mem::take(&mut self.unreached);
-        unreached.look(roster, self.contact, |server| Some(self.beating(server, roster, began)?.beat.fronts));
-        self.unreached = unreached;
+        let mut serving = std::mem::take(&mut self.serving);
+        serving.look(roster, self.contact, |server| self.said(server, roster, began));
+        self.serving = serving;
         if !was_any_fresh {
             // All were silent: who comes back first has no advantage.
             self.begin_anew();
@@ -88,7 +88,7 @@ impl Silence {
         self.seen.values_mut().for_each(|seen| seen.changed = contact);
         self.missing.values_mut().for_each(|since| *since = contact);
         self.unheard.begin_anew(contact);
-        self.unreached.begin_anew(contact);
+        self.serving.begin_anew(contact);
     }
 
     /// What is known of a server that beats.
@@ -108,9 +108,41 @@ impl Silence {
         cuts.into_iter().map(|cut| (cut, cut.ends(roster, |one, other| self.hears(one, other, roster, now)))).collect()
     }
 
-    /// The head, where no front has reached it for long, though one reaches a server that may take its place.
-    pub fn unreached(&self) -> Option<u32> {
-        self.unreached.for_long(self.contact)
+    /// The last beat of a server that beats.
+    fn said(&self, server: u32, roster: &Roster, now: Duration) -> Option<&Beat> {
+        self.beating(server, roster, now).map(|seen| &seen.beat)
+    }
+
+    /// The head, where it beats and hasn't served for long, and why.
+    pub fn unserving(&self, roster: &Roster, now: Duration) -> Option<(u32, Fault)> {
+        let head = *roster.members.first()?;
+        Some((head, self.serving.fault(head, self.said(head, roster, now)?, self.contact)?))
+    }
+
+    /// The same for who looks for a moment alone: the head doesn't serve now.
+    pub fn unserving_now(&self, roster: &Roster, now: Duration) -> Option<(u32, Fault)> {
+        serving::fault_at_once(roster, |server| self.said(server, roster, now))
+    }
+
+    /// Whether the gateway of a member has stood ready for long.
+    pub fn is_ready(&self, member: u32) -> bool {
+        self.serving.is_ready(member, self.contact)
+    }
+
+    /// Whether the gateway of a server that is fresh would serve in the place of a head with that fault.
+    pub fn would_serve(&self, server: u32, head: u32, fault: &Fault, now: Duration) -> bool {
+        let seen = self.seen.get(&server).filter(|_| self.is_fresh(server, now));
+        seen.is_some_and(|seen| serving::would_serve(head, fault, &seen.beat))
+    }
+
+    /// The log says that a head was given up for its gateway.
+    pub fn head_was_given_up(&mut self) {
+        self.serving.head_was_given_up(self.contact);
+    }
+
+    /// Whether that was less than a minute ago.
+    pub fn was_head_given_up(&self) -> bool {
+        self.serving.is_too_soon(self.contact)
     }
 
     pub fn is_fresh(&self, server: u32, now: Duration) -> bool {

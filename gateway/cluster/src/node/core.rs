@@ -135,11 +135,11 @@ impl Core {
     pub fn new(
         node: Arc<Shared>,
         child: Child,
-        gateway: Option<gateway::Settings>,
+        port: Option<Arc<gateway::Port>>,
         trace: Option<&Path>,
         keeping: Option<Keeping<Waits>>,
     ) -> Result<Core> {
-        let gateway = Beside::new(node.id, gateway, node.pause());
+        let gateway = Beside::new(node.id, port, node.pause());
         Ok(Core {
             node,
             child,
@@ -176,6 +176,8 @@ impl Core {
         self.give(What::More(Party::Clients), &Command::More(Party::Clients));
         self.write();
         while let Some(event) = events.recv().await {
+            // Where this process stood still, nothing comes of what has come before it has looked at etcd.
+            self.node.suspension.pass().await;
             self.happen(event);
             self.happen_too(&mut events);
             self.settle();
@@ -760,7 +762,8 @@ impl Core {
             clients: self.streams.len(),
             condemned: self.is_stuck.then_some("its process doesn't answer").or(disk).or(leaves),
             late_joiner: self.late_joiner,
-            gateway: self.gateway.phase(),
+            gateway: self.gateway.said(),
+            keeps_gateway: self.gateway.is_kept(),
         };
     }
 }

@@ -1,4 +1,4 @@
-//! What a node says and reads in etcd. Without etcd the node goes on, and nothing here ends it.
+//! What a node says and reads in etcd. Without etcd the node goes on. That its cluster is another one now ends it.
 
 use std::collections::BTreeSet;
 use std::sync::Arc;
@@ -8,9 +8,10 @@ use anyhow::{Context, Result};
 use bytes::Bytes;
 use tokio::time::{sleep, timeout};
 
+use crate::clock::since_start;
 use crate::contact::Contact;
 use crate::etcd::{Entry, Guard, Operation};
-use crate::records::{self, last_number, Beat, Chain, Piece, Registration};
+use crate::records::{self, last_number, Beat, Chain, Piece, Registration, Replaced};
 use crate::{lock, memory};
 
 use super::{Event, Report, Shared, FIRST};
@@ -47,8 +48,8 @@ struct Membership {
     contact: Contact,
 }
 
-/// Beats and reads for good.
-pub async fn keep(node: Arc<Shared>, joins: bool) {
+/// Beats and reads, until another incarnation stands under the cluster's name.
+pub async fn keep(node: Arc<Shared>, joins: bool) -> Replaced {
     let keys = node.cluster.keys.clone();
     tokio::spawn(node.cluster.etcd.clone().watch(keys.master(), node.look.clone()));
     let look = node.look.clone();
@@ -64,8 +65,10 @@ pub async fn keep(node: Arc<Shared>, joins: bool) {
         contact: Contact::default(),
     };
     loop {
+        let begun = since_start();
         match membership.look().await {
             Ok(is_more) => {
+                membership.node.suspension.looked(begun, true);
                 if membership.contact.regain() {
                     tracing::info!("in contact with etcd again");
                 }
@@ -76,6 +79,11 @@ pub async fn keep(node: Arc<Shared>, joins: bool) {
                 sleep(SHORTEST).await;
             }
             Err(error) => {
+                let error = match error.downcast::<Replaced>() {
+                    Ok(replaced) => return replaced,
+                    Err(error) => error,
+                };
+                membership.node.suspension.looked(begun, false);
                 membership.beaten = None;
                 if membership.contact.lose(format!("{error:#}")) {
                     tracing::warn!("no contact with etcd, and all goes on as it is: {error:#}");
@@ -109,10 +117,7 @@ impl Membership {
         let mut read = outcome.read.into_iter();
         let mut next = || read.next().context("etcd answers with too little");
         let (detected, chain, orders, settings) = (next()?, next()?, next()?, next()?);
-        anyhow::ensure!(
-            settings.first().is_some_and(|found| found.value == records::text(&node.cluster.settings)),
-            "the cluster of this name is another one now"
-        );
+        node.cluster.test(settings.first())?;
         let registrations = unknown.iter().map(|server| Ok((*server, next()?))).collect::<Result<Vec<_>>>()?;
         let beats = if is_head { next()? } else { Vec::new() };
         let chain: Chain = records::value(chain.first().context("the cluster has no chain")?)?;
@@ -181,7 +186,8 @@ impl Membership {
     }
 
     fn next_beat(&self, report: &Report) -> Beat {
-        let standing = &report.standing;
+        let (standing, gateway) = (&report.standing, &report.gateway);
+        let head = self.chain.as_ref().and_then(|chain| chain.members.first());
         Beat {
             number: self.beat,
             joins: self.joins,
@@ -195,7 +201,11 @@ impl Membership {
             clients: report.clients,
             fronts: self.node.fronts.count(),
             memory: memory::used_by(self.node.child),
-            gateway: report.gateway,
+            witnesses: head.and_then(|head| self.node.fronts.witnesses(*head)),
+            gateway: gateway.phase,
+            readiness: lock(&self.node.readiness).clone(),
+            failing: gateway.failing.clone(),
+            reading: gateway.reading,
             condemned: report.condemned.map(Into::into),
             disk: *lock(&self.node.disk),
         }

@@ -19,7 +19,7 @@ use std::net::SocketAddr;
 use std::path::PathBuf;
 use std::sync::{Arc, Mutex};
 
-use anyhow::{bail, Context, Result};
+use anyhow::{anyhow, bail, Context, Result};
 use bytes::Bytes;
 use tokio::net::TcpListener;
 use tokio::signal::unix::{signal, Signal, SignalKind};
@@ -33,7 +33,8 @@ use crate::commands::Standing;
 use crate::etcd::{Guard, Operation};
 use crate::journal::{self, Folder, Written};
 use crate::pipe::FromNode;
-use crate::records::{self, random_name, Chain, Cluster, Disk, GatewayPhase, JournalKind, Pause, Registration};
+use crate::records::{self, random_name, Chain, Cluster, Disk, JournalKind, Pause, Readiness, Registration};
+use crate::suspension::Suspension;
 use crate::wire::{About, Frame};
 use crate::{lock, say};
 
@@ -144,7 +145,9 @@ pub struct Report {
     pub condemned: Option<&'static str>,
     /// One that joins is to be given up, since too much waits for it.
     pub late_joiner: Option<u32>,
-    pub gateway: Option<GatewayPhase>,
+    pub gateway: gateway::Said,
+    /// A gateway is kept, so there is a process of one, or will be soon.
+    pub keeps_gateway: bool,
 }
 
 /// What all tasks of a node know.
@@ -171,10 +174,16 @@ pub struct Shared {
     front_places: Semaphore,
     /// There may be something to read or to write in etcd.
     look: Arc<Notify>,
+    /// Whether this process stood still.
+    suspension: Suspension,
     /// The disk of the journal, as far as it was looked at.
     disk: Mutex<Option<Disk>>,
     /// Servers whose disks have too little room, as they said by their last beats. The head alone reads it.
     short_of_disk: Mutex<BTreeSet<u32>>,
+    /// Whether a gateway would begin, as far as that was tried.
+    readiness: Mutex<Option<Readiness>>,
+    /// A gateway has ended.
+    gateway_ended: Notify,
 }
 
 impl Shared {
@@ -249,8 +258,10 @@ pub async fn run(cluster: Cluster, settings: Settings) -> Result<End> {
     if !has_certificates {
         test_here(listen, "a node")?;
     }
-    if let Some(settings) = &settings.gateway {
-        gateway::test(&cluster, settings).await?;
+    let port = settings.gateway.clone().map(gateway::Port::keep).transpose()?;
+    if let Some(port) = &port {
+        let tested = gateway::test(&cluster, port, false).await;
+        tested.map_err(|said| anyhow!("a gateway wouldn't begin beside this node: {said}"))?;
     }
     let (events, mut heard) = unbounded_channel();
     // One that can't begin with its store has taken no number.
@@ -282,6 +293,7 @@ pub async fn run(cluster: Cluster, settings: Settings) -> Result<End> {
     let tell = events.clone();
     let tell = move |event| drop(tell.send(event));
     let count = loaded.map(|standing| standing.count);
+    let look = Arc::new(Notify::new());
     let keep = |settings| Keeping::begin(&cluster, id, settings, count, tell);
     let keeping = settings.journal.as_ref().map(keep).transpose().context("the journal can't be begun")?;
     let node = Arc::new(Shared {
@@ -300,9 +312,12 @@ pub async fn run(cluster: Cluster, settings: Settings) -> Result<End> {
         clients: Semaphore::new(connections::MOST_CLIENTS),
         fronts: Fronts::default(),
         front_places: Semaphore::new(fronts::MOST_FRONTS),
-        look: Arc::new(Notify::new()),
+        suspension: Suspension::new(look.clone()),
+        look,
         disk: Mutex::default(),
         short_of_disk: Mutex::default(),
+        readiness: Mutex::new(port.as_ref().map(|_| Readiness::Ready)),
+        gateway_ended: Notify::new(),
     });
     let found = if address == local { String::new() } else { format!(" and is found at {address}") };
     say(&format!("server {id} listens on {local}{found}"));
@@ -310,14 +325,21 @@ pub async fn run(cluster: Cluster, settings: Settings) -> Result<End> {
     if let Some(journal) = &settings.journal {
         tokio::spawn(disk::watch(node.clone(), journal.folder.clone(), journal.reserve));
     }
-    let core = Core::new(node.clone(), child, settings.gateway, settings.trace.as_deref(), keeping)?;
+    if let Some(port) = &port {
+        tokio::spawn(gateway::trial::keep(node.clone(), port.clone()));
+    }
+    let core = Core::new(node.clone(), child, port, settings.trace.as_deref(), keeping)?;
     for kind in [SignalKind::terminate(), SignalKind::interrupt()] {
         tokio::spawn(hear_signals(signal(kind)?, node.clone()));
     }
     tokio::spawn(connections::accept(listener, node.clone()));
-    tokio::spawn(membership::keep(node.clone(), settings.beginning == Beginning::Join));
-    tokio::spawn(tick(node));
-    Ok(core.run(heard).await)
+    tokio::spawn(tick(node.clone()));
+    // Both are this one task: where the cluster is another one now, nothing of this node runs between that and its end.
+    Ok(tokio::select! {
+        biased;
+        replaced = membership::keep(node, settings.beginning == Beginning::Join) => End::Fault(replaced.to_string()),
+        end = core.run(heard) => end,
+    })
 }
 
 /// The time, and how long the cluster stood still where the server begins with a store that was recovered.
@@ -434,6 +456,7 @@ async fn hear_signals(mut signals: Signal, node: Arc<Shared>) {
 async fn tick(node: Arc<Shared>) {
     loop {
         tokio::time::sleep(core::TICK).await;
+        node.suspension.note();
         node.tell(Event::Tick);
     }
 }
