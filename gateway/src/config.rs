@@ -125,10 +125,18 @@ pub struct Options {
     #[arg(long, hide = true, conflicts_with_all = ["journal", "journal_size", "shards"])]
     #[serde(skip)]
     beside_node: bool,
-    /// It ends once it has read its options and files, and could listen: a node looks at these before it begins.
+    /// The number of a socket that listens, which a node shares.
+    #[arg(long, hide = true, requires = "beside_node")]
+    #[serde(skip)]
+    listener: Option<i32>,
+    /// It ends once it has read its options and files, and could listen: a node tries these again and again.
     #[arg(long, hide = true, requires = "beside_node")]
     #[serde(skip)]
     only_prepare: bool,
+    /// Addresses may be taken by a gateway that runs.
+    #[arg(long, hide = true, requires = "only_prepare")]
+    #[serde(skip)]
+    beside_another: bool,
     #[arg(long, hide = true)]
     #[serde(skip)]
     clock_file: Option<PathBuf>,
@@ -391,7 +399,9 @@ impl Options {
             log: self.log.or(file.log),
             log_level: self.log_level.or(file.log_level),
             beside_node: self.beside_node,
+            listener: self.listener,
             only_prepare: self.only_prepare,
+            beside_another: self.beside_another,
             clock_file: self.clock_file,
             queue: file.queue,
         }
@@ -519,7 +529,9 @@ impl Options {
             shards,
             journal,
             beside_node: self.beside_node,
+            listener: self.listener,
             only_prepares: self.only_prepare,
+            beside_another: self.beside_another,
             memory: self.memory.map(|size| size.0),
             request_memory: request_memory(self.request_memory)?,
             credentials: self.credentials,
@@ -579,6 +591,7 @@ fn read_file(path: &Path) -> Result<Options> {
 #[cfg(test)]
 mod tests {
     use super::*;
+    use crate::cq::Making;
 
     fn settings(options: Options) -> Result<Settings> {
         options.settings(|named| Ok(named.unwrap_or_else(|| "cq".into())))
@@ -613,7 +626,10 @@ mod tests {
         let options = Options { port: Some(2), ..Options::default() };
         let settings = settings(options.or(file)).unwrap();
         assert_eq!((settings.host.as_str(), settings.port, settings.open), ("::1", 2, true));
-        assert_eq!((settings.memory, settings.journal.unwrap().of(0).size), (Some(1 << 20), Some(96)));
+        assert_eq!(
+            (settings.memory, settings.journal.unwrap().fresh(0, 0).making),
+            (Some(1 << 20), Making::OfSize(Some(96)))
+        );
         assert_eq!(settings.admin, Some("9325".parse().unwrap()));
         assert_eq!((settings.connections, settings.polls), (10_000, 9_000));
         let names: Vec<_> = settings.queues.iter().map(|queue| queue.name.as_str()).collect();
@@ -695,7 +711,7 @@ mod tests {
         let (journal, shards) = (Some(PathBuf::from("a")), Some(2));
         let small = Options { journal, shards, journal_size: Some(Size(191 << 20)), ..Options::default() };
         let kept = Options { journal_size: Some(Size(194 << 20)), ..small.clone() };
-        assert_eq!(settings(kept).unwrap().journal.unwrap().of(1).size, Some(97));
+        assert_eq!(settings(kept).unwrap().journal.unwrap().fresh(1, 0).making, Making::OfSize(Some(97)));
         for bad in [alone, none, size, small, many, little, peek] {
             assert!(settings(bad).unwrap_err().is::<Misuse>());
         }

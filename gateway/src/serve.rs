@@ -2,7 +2,9 @@
 
 use std::cell::Cell;
 use std::io::Write;
+use std::os::unix::io::RawFd;
 use std::path::PathBuf;
+use std::sync::atomic::AtomicU64;
 use std::sync::{Arc, OnceLock};
 use std::time::Duration;
 
@@ -23,8 +25,8 @@ use crate::conversion::convert;
 use crate::cq::{test_built, test_version, Cq};
 use crate::delays;
 use crate::ending::End;
-use crate::http::{is_of_this_machine, listen, Addresses, Door, Hosts, Places, Service};
-use crate::journal::{Files, Lock};
+use crate::http::{is_of_this_machine, listen, shared, test_free, Addresses, Door, Hosts, Places, Service};
+use crate::journal::{emptied, has_had_requests, Files, Lock};
 use crate::metrics::Metrics;
 use crate::move_tasks;
 use crate::moves;
@@ -34,7 +36,7 @@ use crate::purges;
 use crate::queues::shards::Shards;
 use crate::queues::{Image, Queues};
 use crate::retention;
-use crate::store::{self, Ends, Kept, NodeStart, Ready, Start, Store};
+use crate::store::{self, Ends, Kept, NodeStart, Ready, Start, Store, ToldError};
 use crate::tls::Certificate;
 use crate::upgrade::Upgrade;
 
@@ -53,8 +55,12 @@ pub struct Settings {
     pub journal: Option<Files>,
     /// The store is kept by a chain of servers, and the node of the head has the other end of standard input.
     pub beside_node: bool,
+    /// A socket that listens, which the node keeps and shares.
+    pub listener: Option<RawFd>,
     /// It ends once it has read all that it was given, and could listen.
     pub only_prepares: bool,
+    /// Another gateway of this machine has the addresses that it would take.
+    pub beside_another: bool,
     /// So many bytes messages and what else counts may use.
     pub memory: Option<u64>,
     /// So many bytes may be kept by all requests that are being served.
@@ -154,10 +160,15 @@ async fn prepare(settings: Arc<Settings>) -> Result<Prepared> {
         peeks: settings.peek.then(|| Peeks::new(settings.owner.clone())),
         store: OnceLock::new(),
     });
-    // Another gateway of this machine may serve operators by now.
-    if let Some(address) = settings.admin.as_ref().filter(|_| !settings.only_prepares) {
-        let listener = listen_for_operators(address)?;
-        tokio::spawn(admin.clone().serve(listener, places.operators, settings.hosts()));
+    match &settings.admin {
+        Some(address) if !settings.only_prepares => {
+            let listener = listen_for_operators(address)?;
+            tokio::spawn(admin.clone().serve(listener, places.operators, settings.hosts()));
+        }
+        Some(Address { host, port }) if !settings.beside_another => {
+            test_free(host, *port).with_context(|| format!("can't listen on {host}:{port} for operators"))?;
+        }
+        _ => {}
     }
     Ok(Prepared { entrance, places, admin })
 }
@@ -197,7 +208,10 @@ impl Entrance {
             None => None,
         };
         let (host, port) = (&settings.host, settings.port);
-        let listener = listen(host, port).with_context(|| format!("can't listen on {host}:{port}"))?;
+        let listener = match settings.listener {
+            Some(socket) => shared(socket).context("the socket that is shared can't be used")?,
+            None => listen(host, port).with_context(|| format!("can't listen on {host}:{port}"))?,
+        };
         // Fronts show who they are, and say themselves whom they serve.
         let is_open = settings.open || identity.is_some();
         if keys.is_none() && !is_open && !is_of_this_machine(listener.local_addr()?.ip()) {
@@ -268,6 +282,7 @@ async fn tell(settings: &Settings, files: &Files, place: usize) -> Result<(Ready
                 tracing::warn!("cq is started again. Before, {error}");
                 ended = Some(error);
             }
+            Err(error @ ToldError::Cq(_)) => return Err(error).with_context(|| file.path.display().to_string()),
             Err(error) => return Err(error.into()),
         }
     }
@@ -302,14 +317,19 @@ async fn begin_kept(
             tokio::spawn(async move { tell(&settings, &files, shard.place()).await })
         })
         .collect();
-    let mut kept = Kept { files: Vec::new(), begun: Vec::new() };
+    let mut kept = Kept { files: Vec::new(), begun: Vec::new(), entries: Vec::new() };
+    let has_had_requests = has_had_requests(files.path())?;
     let (mut cqs, mut last, mut entries) = (Vec::new(), 0, 0);
     for (shard, starting) in settings.shards.all().zip(starting) {
         let (ready, image) = starting.await??;
         let file = files.of(shard.place());
+        if ready.entries == 0 && has_had_requests {
+            return Err(emptied(files.path(), &file.path).into());
+        }
         last = last.max(image.last());
         entries += ready.entries;
         kept.begun.push(image.largest_number());
+        kept.entries.push(ready.entries);
         cqs.push(ready.cq);
         queues.take_up(shard, image).with_context(|| file.path.display().to_string())?;
         kept.files.push(file);
@@ -325,7 +345,8 @@ async fn begin_kept(
 /// head lives.
 async fn begin_beside_node(settings: &Settings, tables: (&Arc<Clock>, &Arc<Queues>)) -> Result<Begun> {
     let (clock, queues) = tables;
-    let mut image = Image::new(settings.peek);
+    let far = Arc::new(AtomicU64::new(0));
+    let mut image = Image::new(settings.peek).counted_by(far.clone());
     let mut bytes = 0;
     let mut take = |chunk: &[u8]| {
         if bytes == 0 {
@@ -334,7 +355,7 @@ async fn begin_beside_node(settings: &Settings, tables: (&Arc<Clock>, &Arc<Queue
         bytes += chunk.len();
         image.feed(chunk)
     };
-    let (mut cq, mut node) = store::take_up_from_node(clock, &mut take).await?;
+    let (mut cq, mut node) = store::take_up_from_node(clock, &far, &mut take).await?;
     tracing::info!(bytes, "the store is told");
     let (last, number) = (image.last(), image.largest_number());
     let shard = settings.shards.all().next().context("there is no shard")?;
@@ -347,9 +368,10 @@ async fn begin_beside_node(settings: &Settings, tables: (&Arc<Clock>, &Arc<Queue
             made
         }
     });
-    store::wait_beside_node(making, &mut cq, &mut node, clock).await?.context("the store of the head")?;
+    let made = store::wait_beside_node(making, &mut cq, &mut node, (clock, &far)).await?;
+    made.context("the store of the head")?;
     clock.go_on_from(last);
-    let kept = Kept { files: Vec::new(), begun: vec![number] };
+    let kept = Kept { files: Vec::new(), begun: vec![number], entries: Vec::new() };
     Ok(Begun { cqs: vec![cq], node: Some(node), kept: Some(kept), last, _lock: None })
 }
 
@@ -375,7 +397,19 @@ async fn begin(settings: &Arc<Settings>, health: &Health) -> Result<RunningStore
     };
     let (store, ends) = store::start(Start { program, patience, shards, cqs, node, queues, clock, kept, memory });
     finish_all(&store, paused).await;
+    if let Some(lock) = &_lock {
+        note_requests(&store, lock);
+    }
     Ok(RunningStore { store, ends, _lock })
+}
+
+/// Notes that the file of each program has requests, where each has a book: without that one is begun later.
+fn note_requests(store: &Store, lock: &Lock) {
+    if store.places().all(|place| store.queues().books().current(place).is_some()) {
+        if let Err(error) = lock.note_requests() {
+            tracing::warn!("it can't be noted in FILE.lock that the journal has requests: {error}");
+        }
+    }
 }
 
 /// Brings to its end what was cut off, before anybody is served. `paused`: between which moments nobody was.
@@ -406,6 +440,7 @@ async fn answer(settings: &Settings, started: Started, signals: &mut Signals) ->
     }
     let (end, ending) = End::new();
     move_tasks::resume(&store, &keys);
+    let of_store = store.clone();
     let (owner, metrics) = (settings.owner.clone(), admin.metrics.clone());
     let is_cut = places.served < settings.connections;
     let polls = if is_cut { settings.polls.min(places.served - places.served / 10) } else { settings.polls };
@@ -421,6 +456,8 @@ async fn answer(settings: &Settings, started: Started, signals: &mut Signals) ->
     let door = Door::new(service, certificate.clone(), identity, places);
     let mut served = tokio::spawn(door.serve(listener, ending));
     admin.health.serves();
+    of_store.says_that_it_serves();
+    drop(of_store);
     notify_supervisor(sd_notify::NotifyState::Ready);
     tracing::info!(%url, "the gateway serves");
     say(&format!("listening on {url}"));

@@ -109,11 +109,12 @@ def _enter(namespace: int) -> None:
 
 @dataclass
 class Rules:
-    """Rules of a machine's system by which packets are lost: each names a chain of its filter, and which packets."""
+    """Rules of a machine's system by which packets are lost, or refused by REJECT: each names a chain of its filter, and which packets."""
 
     network: Network | Loopback
     machine: int
     rules: list[tuple[str, ...]]
+    target: str = "DROP"
 
     def __post_init__(self) -> None:
         self.tag = f"hobbychair-{os.getpid()}-{next(_tags)}"
@@ -140,7 +141,7 @@ class Rules:
     def say(self, how: str, rule: tuple[str, ...]) -> bool:
         chain, *which = rule
         tagged = ["--match", "comment", "--comment", self.tag]
-        return self.iptables("--wait", how, chain, *which, *tagged, "--jump", "DROP").returncode == 0
+        return self.iptables("--wait", how, chain, *which, *tagged, "--jump", self.target).returncode == 0
 
     def iptables(self, *words: str) -> subprocess.CompletedProcess:
         words = tuple(self.network.at(self.machine, "iptables", *words))

@@ -19,8 +19,8 @@ frames = types.ModuleType("frames")
 importlib.machinery.SourceFileLoader("frames", str(TOP / "check" / "frames")).exec_module(frames)
 
 QUEUE = "q.fifo"
-LINK, CLIENT, MESSAGE, GONE, PING, BATCH, QUERY, FRONT, WELCOME, RECEIVED, STANDING, ANSWER, REFUSED, AWAY = (
-    0, 1, 2, 3, 4, 5, 6, 7, 16, 17, 18, 19, 20, 21)
+LINK, CLIENT, MESSAGE, GONE, PING, BATCH, QUERY, FRONT, REACH, WELCOME, RECEIVED, STANDING, ANSWER, REFUSED, AWAY = (
+    0, 1, 2, 3, 4, 5, 6, 7, 8, 16, 17, 18, 19, 20, 21)
 
 
 def frame(kind: int, data: bytes) -> bytes:

@@ -44,12 +44,12 @@ class GivenUp(Exception):
 class Front:
     """A front of a cluster, which can be started again where it was."""
 
-    def __init__(self, cluster: Cluster, place: int) -> None:
+    def __init__(self, cluster: Cluster, place: int, *words: str) -> None:
         self.cluster, self.machine, self.name = cluster, cluster.layout.of_front(place), f"front{place + 1}"
         [port] = [FRONTS] if cluster.network.has_machines else free_ports(1)
         self.words = ["--host", cluster.network.address(self.machine), "--port", str(port)]
         # Others are served on machines than the front's own.
-        self.words += ["--open"] if cluster.network.has_machines else []
+        self.words += [*(["--open"] if cluster.network.has_machines else []), *words]
         self.url = f"http://{cluster.network.address(self.machine)}:{port}"
         self.start()
 
@@ -82,8 +82,8 @@ class Served:
             self.end()
             raise
 
-    def add_front(self) -> None:
-        self.fronts.append(Front(self.cluster, len(self.fronts)))
+    def add_front(self, *words: str) -> None:
+        self.fronts.append(Front(self.cluster, len(self.fronts), *words))
         wait(20, self.fronts[-1].serves, "the front doesn't begin")
         self.front = self.fronts[0]
         self.sqs = self.client()

@@ -130,6 +130,9 @@ class Etcd:
     def write(self, key: str, value: str) -> None:
         self.ask("/v3/kv/put", {"key": _digits(key), "value": _digits(value)})
 
+    def delete(self, key: str) -> None:
+        self.ask("/v3/kv/deleterange", {"key": _digits(key)})
+
     def leader(self) -> int | None:
         """The place of the leader, as far as a member knows it."""
         members = {}
@@ -195,9 +198,10 @@ def _text(digits: str) -> str:
 
 
 class Proxy:
-    """Stands between one node and etcd, and can be cut."""
+    """Stands between one node and etcd, and can be cut, or take its time for each way."""
 
     def __init__(self, url: str) -> None:
+        self.delay = 0.0
         self.port = int(url.rsplit(":", 1)[1])
         self.listener = socket.create_server(("127.0.0.1", 0))
         self.url = f"{url.split(':')[0]}://127.0.0.1:{self.listener.getsockname()[1]}"
@@ -221,10 +225,10 @@ class Proxy:
             for a, b in ((one, other), (other, one)):
                 threading.Thread(target=self.carry, args=(a, b), daemon=True).start()
 
-    @staticmethod
-    def carry(a: socket.socket, b: socket.socket) -> None:
+    def carry(self, a: socket.socket, b: socket.socket) -> None:
         try:
             while data := a.recv(1 << 16):
+                time.sleep(self.delay)
                 b.sendall(data)
         except OSError:
             pass
@@ -247,6 +251,9 @@ class Proxy:
         self.is_cut = False
 
     def end(self) -> None:
+        # Whoever waits in accept would keep it open.
+        with contextlib.suppress(OSError):
+            self.listener.shutdown(socket.SHUT_RDWR)
         self.listener.close()
         self.cut()
 
@@ -257,6 +264,10 @@ class Proxies:
     def __init__(self, urls: list[str]) -> None:
         self.all = [Proxy(url) for url in urls]
         self.urls = [one.url for one in self.all]
+
+    def delay(self, seconds: float) -> None:
+        for one in self.all:
+            one.delay = seconds
 
     def cut(self) -> None:
         for one in self.all:
@@ -505,6 +516,17 @@ class Cluster:
         self.between.append(proxy)
         registration["address"] = proxy.url.removeprefix("http://")
         self.etcd.write(key, json.dumps(registration, separators=(",", ":")))
+
+    def put_between_gateway(self, node: Node) -> Proxy:
+        """From now on fronts find a proxy where the node's gateway is registered. Where that has ended, nobody is there."""
+        wait(20, node.look, "the node doesn't begin")
+        key = f"{self.root}/node/{node.server:010}"
+        registration = json.loads(self.etcd.read(key)[key])
+        proxy = Proxy(f"http://127.0.0.1:{node.gateway_port}")
+        self.between.append(proxy)
+        registration["gateway"] = proxy.url.removeprefix("http://")
+        self.etcd.write(key, json.dumps(registration, separators=(",", ":")))
+        return proxy
 
     def start_master(self, place: int | None = None) -> None:
         """One more, or the one of that place again."""

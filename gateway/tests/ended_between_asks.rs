@@ -1,11 +1,14 @@
 //! A library that is loaded ahead of the system's. Where the file that HOBBYCHAIR_TEST_ASKS names has a number, a gateway asks its
-//! node so many times more, and is killed ahead of the next ask, whatever it writes at once. The file is gone then.
+//! node so many times more, and is killed ahead of the next ask, whatever it writes at once. The file is gone then. Where it has
+//! `never`, and a number of milliseconds, each gateway is killed ahead of its first ask, so much later, and the file stays.
 
 use std::env;
 use std::ffi::{c_int, c_long, c_void};
 use std::fs;
 use std::path::{Path, PathBuf};
 use std::sync::OnceLock;
+use std::thread::sleep;
+use std::time::Duration;
 
 extern "C" {
     fn syscall(number: c_long, ...) -> c_long;
@@ -73,11 +76,17 @@ unsafe fn before_the_end(file: c_int, bytes: *const u8, count: usize) -> Option<
         return None;
     }
     let counted = counted()?;
-    let left: usize = fs::read_to_string(counted).ok()?.trim().parse().ok()?;
+    let said = fs::read_to_string(counted).ok()?;
     if !is_local(file) {
         return None;
     }
     let asks = asks(bytes);
+    if let Some(wait) = said.strip_prefix("never ") {
+        let first = *asks.first()?;
+        sleep(Duration::from_millis(wait.trim().parse().ok()?));
+        return Some(first);
+    }
+    let left: usize = said.trim().parse().ok()?;
     if let Some(place) = asks.get(left) {
         fs::remove_file(counted).ok()?;
         return Some(*place);

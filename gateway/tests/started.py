@@ -98,8 +98,9 @@ class Refused(Exception):
 class Started:
     """A running gateway."""
 
-    def __init__(self, *words: str, room: Path | None = None) -> None:
-        self.words = _with_small_journal(list(words))
+    def __init__(self, *words: str, room: Path | None = None, errors: Path | None = None) -> None:
+        """What it says of faults goes to the file `errors`, if there is one."""
+        self.words, self.errors = _with_small_journal(list(words)), errors
         self.clock_file = None
         if room is not None:
             self.clock_file = room / "clock"
@@ -109,7 +110,8 @@ class Started:
 
     def start(self) -> None:
         self.process = subprocess.Popen(
-            command("--port", "0", *self.words), env=environment(), stdout=subprocess.PIPE, text=True
+            command("--port", "0", *self.words), env=environment(), stdout=subprocess.PIPE, text=True,
+            stderr=self.errors and self.errors.open("w"),
         )
         assert self.process.stdout is not None
         self.said: list[str] = []

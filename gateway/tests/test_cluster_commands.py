@@ -84,7 +84,7 @@ def test_the_status_of_a_cluster(tmp_path):
         assert [server["hears"] for server in status["servers"]] == [[2, 3], [1, 3], [1, 2]]
         assert all(server["is_full"] for server in status["servers"]) and status["waits"] is None
         rows = run(*words).stdout.splitlines()
-        assert rows[1].split() == ["server", "address", "role", "count", "lag", "beats", "hears", "full", "acts", "fronts", "memory", "journal", "disk", "gateway"]
+        assert rows[1].split() == ["server", "address", "role", "count", "lag", "beats", "hears", "full", "acts", "fronts", "reach", "memory", "journal", "disk", "gateway"]
         assert rows[2].split()[0:3:2] == ["1", "head"]
         [server, *_] = status["servers"]
         assert 1 << 20 < server["memory_bytes"] < 1 << 30 < server["memory_bound_bytes"]

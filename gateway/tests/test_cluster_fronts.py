@@ -1,16 +1,17 @@
-"""Fronts as witnesses: which servers they are in contact with, and what becomes of a head that they don't reach."""
+"""Fronts as witnesses: which servers they are in contact with, and what becomes of a head whose gateway they don't reach."""
 
 from __future__ import annotations
 
 import json
 import socket
+import struct
 import time
 from collections.abc import Iterator
 from pathlib import Path
 
 import pytest
 
-from cluster_users import AWAY, BATCH, FRONT, PING, about, frame, frames
+from cluster_users import AWAY, BATCH, FRONT, PING, REACH, about, frame, frames
 from cluster_work import Served
 from clusters import NAME, Cluster, has_etcd, run, wait
 
@@ -19,7 +20,7 @@ pytestmark = pytest.mark.skipif(not has_etcd(), reason="etcd isn't there: Debian
 
 @pytest.fixture
 def cluster(tmp_path: Path) -> Iterator[Cluster]:
-    one = Cluster(tmp_path)
+    one = Cluster(tmp_path, gateways=True)
     try:
         yield one
     finally:
@@ -38,10 +39,18 @@ def served(tmp_path: Path) -> Iterator[Served]:
         one.end()
 
 
+def said(cluster: Cluster, what: str) -> list:
+    """What the last beat of each server says; nothing where etcd doesn't answer now."""
+    try:
+        beats = cluster.etcd.read(f"{cluster.root}/beat/")
+    except ConnectionError:
+        return []
+    return [json.loads(beats[key]).get(what) for key in sorted(beats)]
+
+
 def fronts(cluster: Cluster) -> list[int]:
     """How many are in contact with each server, as the last beats say."""
-    beats = cluster.etcd.read(f"{cluster.root}/beat/")
-    return [json.loads(beats[key]).get("fronts", 0) for key in sorted(beats)]
+    return [count or 0 for count in said(cluster, "fronts")]
 
 
 class Witness:
@@ -54,7 +63,13 @@ class Witness:
         self.socket.sendall(frame(FRONT, about(cluster)))
 
     def ping(self) -> bytes:
+        """As a front that says nothing of gateways."""
         self.socket.sendall(frame(PING, bytes(8)))
+        return next(self.frames)
+
+    def tell(self, head: int, reaches_head: bool, reaches_this: bool) -> bytes:
+        """The same, with which gateways' ports it reaches."""
+        self.socket.sendall(frame(REACH, struct.pack("<IBB", head, reaches_head, reaches_this)))
         return next(self.frames)
 
 
@@ -63,9 +78,10 @@ def test_each_server_says_how_many_fronts_are_in_contact(served):
     for count in (1, 2):
         served.add_front()
         wait(10, lambda: fronts(cluster) == [count] * 3, "not all servers are reached")
+    wait(10, lambda: said(cluster, "witnesses") == [{"head": 1, "reach_head": 2, "reach_this": 2}] * 3, "not all gateways are reached")
     rows = run("cluster", "status", *cluster.which("front")).stdout.splitlines()
-    place = rows[1].split().index("fronts")
-    assert [row.split()[place] for row in rows[2:5]] == ["2", "2", "2"]
+    places = [rows[1].split().index(name) for name in ("fronts", "reach", "gateway")]
+    assert [[row.split()[place] for place in places] for row in rows[2:5]] == [["2", "2", "acts"], *[["2", "2", "ready"]] * 2]
     cluster.start_node()
     wait(20, cluster.settles([1, 2, 3, 4]), "it doesn't join")
     wait(10, lambda: fronts(cluster) == [2] * 4, "the one that joined isn't reached")
@@ -74,47 +90,72 @@ def test_each_server_says_how_many_fronts_are_in_contact(served):
     assert cluster.detected() == []
 
 
-def test_a_head_that_no_front_reaches_is_given_up(served):
+def test_a_head_whose_gateway_no_front_reaches_is_given_up(served):
+    cluster = served.cluster
+    proxy = cluster.put_between_gateway(cluster.node(1))
+    served.add_front()
+    wait(10, lambda: said(cluster, "witnesses") == [{"head": 1, "reach_head": 1, "reach_this": 1}] * 3, "not all are reached")
+    queue = served.queue("q.fifo")
+    served.sqs.send_message(QueueUrl=queue, MessageBody="a", MessageGroupId="g", MessageDeduplicationId="a")
+    proxy.end()
+    wait(15, cluster.settles([2, 3]), "the head stays")
+    served.sqs.send_message(QueueUrl=queue, MessageBody="b", MessageGroupId="g", MessageDeduplicationId="b")
+    assert [message["Body"] for message in served.receive(queue)] == ["a", "b"]
+    masters = "".join(log.read_text() for log in cluster.room.glob("master*.log"))
+    assert "the gateway of the head is reached by no front, and another one's is" in masters
+    assert cluster.detected() == [1] and cluster.log()[0] == {"detect": {"server": 1, "unserved": True}}
+
+
+def test_a_head_whose_node_no_front_reaches_stays_where_its_gateway_is_reached(served):
     cluster = served.cluster
     # The nodes know the way to each other already. So only fronts go by this one.
     cluster.put_between(cluster.node(1))
     served.add_front()
     wait(10, lambda: fronts(cluster) == [1, 1, 1], "not all servers are reached")
-    queue = served.queue("q.fifo")
-    served.sqs.send_message(QueueUrl=queue, MessageBody="a", MessageGroupId="g", MessageDeduplicationId="a")
+    queue = served.queue("q")
     cluster.between[0].cut()
-    wait(10, cluster.settles([2, 3]), "the head stays")
-    served.sqs.send_message(QueueUrl=queue, MessageBody="b", MessageGroupId="g", MessageDeduplicationId="b")
-    assert [message["Body"] for message in served.receive(queue)] == ["a", "b"]
-    masters = "".join(log.read_text() for log in cluster.room.glob("master*.log"))
-    assert "no front reaches the head, and one reaches another server" in masters
-    assert cluster.detected() == [1]
+    wait(10, lambda: fronts(cluster) == [0, 1, 1], "the head's node is reached")
+    begun = time.monotonic()
+    while time.monotonic() - begun < 8:
+        served.sqs.send_message(QueueUrl=queue, MessageBody="a")
+        time.sleep(0.1)
+    assert cluster.detected() == []
 
 
 def test_a_head_that_one_front_reaches_stays(cluster):
-    ones, others = [Witness(cluster, 1)], [Witness(cluster, server) for server in (2, 2, 3)]
+    wait(20, lambda: cluster.gateway_acts(1), "no gateway acts")
+    one, others = Witness(cluster, 1), [Witness(cluster, server) for server in (2, 2, 3)]
     begun = time.monotonic()
     while time.monotonic() - begun < 6:
-        for one in ones + others:
-            assert one.ping()[1] == PING
+        assert one.tell(1, True, True)[1] == PING
+        assert all(other.tell(1, False, True)[1] == PING for other in others)
         time.sleep(0.3)
     assert fronts(cluster) == [1, 2, 1] and cluster.detected() == []
-    # And goes where that one is gone.
-    ones[0].socket.close()
+    # And goes where that one is gone. One that says nothing of gateways, or takes another one for the head, is no witness.
+    one.socket.close()
+    ones = [Witness(cluster, 1), Witness(cluster, 1)]
     while not cluster.settles([2, 3])():
         assert time.monotonic() - begun < 20
-        for one in others:
-            one.ping()
+        if not cluster.detected():
+            ones[0].ping()
+            ones[1].tell(2, True, True)
+        for other in others:
+            other.tell(1, False, True)
         time.sleep(0.3)
 
 
-def test_a_head_stays_where_no_server_is_reached(cluster):
-    one = Witness(cluster, 2)
-    assert one.ping()[1] == PING
-    wait(10, lambda: fronts(cluster)[1] == 1, "it isn't heard")
-    one.socket.close()
+def test_a_head_stays_where_no_gateway_is_reached(cluster):
+    wait(20, lambda: cluster.gateway_acts(1), "no gateway acts")
+    witnesses = [Witness(cluster, server) for server in (1, 2, 3)]
+    begun = time.monotonic()
+    while time.monotonic() - begun < 6:
+        assert all(witness.tell(1, False, False)[1] == PING for witness in witnesses)
+        time.sleep(0.3)
+    assert said(cluster, "witnesses") == [{"head": 1, "reach_head": 0, "reach_this": 0}] * 3
+    for witness in witnesses:
+        witness.socket.close()
     time.sleep(6)
-    assert fronts(cluster) == [0, 0, 0] and cluster.detected() == []
+    assert fronts(cluster) == [0, 0, 0] and said(cluster, "witnesses") == [None] * 3 and cluster.detected() == []
 
 
 def test_strangers_are_no_fronts(cluster):
@@ -130,6 +171,9 @@ def test_strangers_are_no_fronts(cluster):
     one.socket.sendall(frame(BATCH, bytes(12)))
     assert one.socket.recv(1) == b""
     cluster.node(1).logs("a frame came that doesn't belong to a front")
+    # No server has the number 0.
+    with pytest.raises(StopIteration):
+        Witness(cluster, 1).tell(0, False, True)
     # One that says nothing more isn't in contact, and loses its connection.
     silent = Witness(cluster, 1)
     assert silent.ping()[1] == PING

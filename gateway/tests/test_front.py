@@ -152,8 +152,7 @@ def test_a_request_goes_to_the_gateway_of_the_head_as_it_is(world):
     assert now + 40_000 < int(heard["x-hobbychair-until"]) <= now + 45_000
     world.ask(Amz_Sdk_Invocation_Id="call")
     assert world.gateways[0].asked()[1][2]["amz-sdk-invocation-id"] == "call"
-    # The time was asked for once.
-    assert len(world.gateways[0].heard) == 3
+    assert len(world.gateways[0].asked()) == 2
 
 
 def test_operators_are_told_how_a_front_is(etcd):
@@ -170,6 +169,16 @@ def test_operators_are_told_how_a_front_is(etcd):
         wait(10, lambda: get("/health") == (200, "serving by the gateway of server 1\n"), "it isn't well")
         world.ask()
         lines = get("/metrics")[1].splitlines()
+        # Nobody asks, and it knows all the same that the gateway is away.
+        port = world.gateways[0].port
+        world.gateways[0].end()
+        took = wait(6, lambda: get("/health")[0] == 503, "it is well")
+        assert took > 2.5 and get("/health")[1].startswith("waiting: the gateway of server 1 doesn't answer: ")
+        world.etcd.signal(signal.SIGSTOP)
+        wait(10, lambda: "neither the gateway of server 1 answers (" in get("/health")[1], "it doesn't say that etcd is away")
+        world.etcd.signal(signal.SIGCONT)
+        world.gateways[0] = Acting("again", port)
+        wait(6, lambda: get("/health") == (200, "serving by the gateway of server 1\n"), "it isn't well again")
         assert {'hobbychair_front_requests_total{status="200"} 1', "hobbychair_front_open_requests 0", "hobbychair_front_acting_server 1"} <= set(lines)
         # The next head has no gateway.
         world.register(3, None)
@@ -290,7 +299,7 @@ def test_what_no_gateway_would_perform_is_refused_by_the_front(world):
     assert refused(b"{" + url + b', "MessageBody": ""}', **send) == (400, "MissingParameter")
     assert refused(b"{" + url + b', "MessageBody": "b", "DelaySeconds": 901}', **send) == (400, "InvalidParameterValue")
     assert world.ask("/a/b/c/d/e")[0] == 404
-    assert world.gateways[0].heard == []
+    assert world.gateways[0].asked() == []
     assert world.ask()[2] == b"one"
 
 

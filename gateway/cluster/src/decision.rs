@@ -9,7 +9,14 @@ use crate::cut::Cut;
 use crate::etcd::{Guard, Operation};
 use crate::records::{Keys, Line, Piece};
 use crate::roster::Roster;
+use crate::serving::Fault;
 use crate::silence::Silence;
+
+/// So many members are left at least where heads are given up for their gateways.
+const LEAST_LEFT: usize = 2;
+
+/// Why no second head is given up for its gateway.
+const TOO_SOON: &str = "another head was given up for its gateway less than a minute ago";
 
 /// A message of a server that waits for the master.
 #[derive(Clone, Debug)]
@@ -88,9 +95,12 @@ impl View<'_> {
             };
             return (Some(self.detection(server, vec![guard])), why);
         }
-        let (cut_off, why_kept) = self.detect_cut_off();
-        let lost = cut_off.or_else(|| self.detect_unreached());
-        (lost, why.or(why_kept))
+        let (cut_off, why_cut_off_kept) = self.detect_cut_off();
+        if cut_off.is_some() {
+            return (cut_off, why);
+        }
+        let (unserving, why_unserving_kept) = self.detect_unserving();
+        (unserving, why.or(why_cut_off_kept).or(why_unserving_kept))
     }
 
     /// One end of a link that carries nothing, though both ends beat.
@@ -107,22 +117,52 @@ impl View<'_> {
         (None, why)
     }
 
-    /// A head that no front reaches.
-    fn detect_unreached(&self) -> Option<Decision> {
-        let head = self.silence.unreached().filter(|head| self.why_kept(*head).is_none())?;
-        tracing::warn!(server = head, "no front reaches the head, and one reaches another server");
-        Some(self.detection(head, Vec::new()))
+    /// A head whose gateway doesn't serve.
+    fn detect_unserving(&self) -> (Option<Decision>, Option<String>) {
+        let Some((head, fault)) = self.silence.unserving(self.roster, self.now) else { return (None, None) };
+        let is_too_soon = || self.silence.was_head_given_up().then_some(TOO_SOON);
+        let why = self.why_unserved(head, &fault, |member| self.silence.is_ready(member));
+        if let Some(why) = why.or_else(is_too_soon) {
+            return (None, Some(format!("the gateway of server {head} {fault}, and {why}")));
+        }
+        tracing::warn!(server = head, "the gateway of the head {fault}: the head is given up");
+        (Some(self.detection_of(Line::Detect { server: head, unserved: true }, head, Vec::new())), None)
+    }
+
+    /// Why a head isn't given up though its gateway doesn't serve: the gateway of another full member has to stand ready. What
+    /// stands before that one would have to go, too, and behind that two members have to be left. `is_ready`: whether a gateway
+    /// has stood ready for long, where it does so.
+    pub fn why_unserved(&self, head: u32, fault: &Fault, is_ready: impl Fn(u32) -> bool) -> Option<&'static str> {
+        if let Some(why) = self.why_kept(head) {
+            return Some(why);
+        }
+        let would_serve = |server: &u32| {
+            let is_other = *server != head && self.roster.is_known_full(*server);
+            is_other && is_ready(*server) && self.silence.would_serve(*server, head, fault, self.now)
+        };
+        match self.roster.members.iter().position(would_serve) {
+            None if *fault == Fault::Unreached => Some("no front reaches that of another member that stands ready"),
+            None => Some("no other member's stands ready, or has for long"),
+            Some(place) if self.roster.members.len() - place >= LEAST_LEFT => None,
+            Some(1) => Some("without it one member would be left"),
+            Some(_) => Some("without it and those behind it whose gateways don't stand ready one member would be left"),
+        }
     }
 
     fn detection(&self, server: u32, guards: Vec<Guard>) -> Decision {
-        let line = self.roster.line + 1;
+        self.detection_of(Line::detect(server), server, guards)
+    }
+
+    /// By this line a server is given up.
+    fn detection_of(&self, line: Line, server: u32, guards: Vec<Guard>) -> Decision {
+        let number = self.roster.line + 1;
         let also = vec![
-            Operation::Put(self.keys.detected(server), line.to_string()),
+            Operation::Put(self.keys.detected(server), number.to_string()),
             Operation::delete(&self.keys.beat(server)),
             Operation::delete(&self.keys.condemned(server)),
             self.keys.without_letters(server, u64::MAX - 1),
         ];
-        Decision::Append { line: Line::Detect { server }, guards, also }
+        Decision::Append { line, guards, also }
     }
 
     /// Why a server isn't given up though it seems to be lost: another member has to have all that was acknowledged, and
@@ -173,8 +213,10 @@ impl View<'_> {
 
 #[cfg(test)]
 mod tests {
+    use std::collections::BTreeMap;
+
     use super::*;
-    use crate::records::{Beat, DISK_HANGS};
+    use crate::records::{Beat, Failing, GatewayPhase, Readiness, Witnesses, DISK_HANGS};
 
     const HALF: Duration = Duration::from_millis(500);
 
@@ -188,8 +230,8 @@ mod tests {
         condemned: BTreeSet<u32>,
         /// Who doesn't hear whom.
         deaf: Vec<(u32, u32)>,
-        /// Whom a front reaches.
-        reached: Vec<u32>,
+        /// What servers say of their gateways.
+        said: BTreeMap<u32, Beat>,
         /// Whose disk hangs.
         hanging: Vec<u32>,
     }
@@ -198,8 +240,8 @@ mod tests {
         fn new(size: u32) -> Candidate {
             let roster = Roster::of_first_chain(size);
             let (letters, condemned, silence) = (Vec::new(), BTreeSet::new(), Silence::default());
-            let (deaf, reached, hanging) = (Vec::new(), Vec::new(), Vec::new());
-            Candidate { roster, silence, now: Duration::ZERO, revision: 0, letters, condemned, deaf, reached, hanging }
+            let (deaf, said, hanging) = (Vec::new(), BTreeMap::new(), Vec::new());
+            Candidate { roster, silence, now: Duration::ZERO, revision: 0, letters, condemned, deaf, said, hanging }
         }
 
         /// So many looks, at each of which these servers have beaten; the others have beaten before.
@@ -212,9 +254,9 @@ mod tests {
                 let hears =
                     |server: u32| beat.iter().copied().filter(|other| !self.deaf.contains(&(server, *other))).collect();
                 let with_beat = |(server, revision)| {
-                    let (joins, fronts) = (joins == Some(server), self.reached.contains(&server).into());
                     let condemned = self.hanging.contains(&server).then(|| DISK_HANGS.into());
-                    (server, revision, Beat { joins, hears: hears(server), fronts, condemned, ..Beat::default() })
+                    let said = self.said.get(&server).cloned().unwrap_or_default();
+                    (server, revision, Beat { joins: joins == Some(server), hears: hears(server), condemned, ..said })
                 };
                 self.silence.look(beats.map(with_beat).collect(), &self.roster, self.now);
             }
@@ -249,7 +291,7 @@ mod tests {
         candidate.look(3, &[1, 3], &[2], None);
         let (decision, why) = candidate.decide();
         let Decision::Append { line, guards, .. } = decision else { panic!("{decision:?}") };
-        assert_eq!((line, why), (Line::Detect { server: 2 }, None));
+        assert_eq!((line, why), (Line::detect(2), None));
         assert_eq!(guards, [Guard::IsOfRevision(Keys::for_tests().beat(2), 1)]);
     }
 
@@ -277,7 +319,7 @@ mod tests {
         assert_eq!(decision, Decision::Spare(1));
         assert!(why.unwrap().contains("server 1 is condemned, and no other member that has all"));
         candidate.look(2, &[1, 2], &[], None);
-        assert_eq!(candidate.line(), Some(Line::Detect { server: 1 }));
+        assert_eq!(candidate.line(), Some(Line::detect(1)));
     }
 
     #[test]
@@ -292,16 +334,16 @@ mod tests {
         candidate.hanging = vec![1, 2];
         candidate.condemned = [1, 2].into();
         candidate.look(1, &[1, 2, 3], &[], None);
-        assert_eq!(candidate.line(), Some(Line::Detect { server: 1 }));
+        assert_eq!(candidate.line(), Some(Line::detect(1)));
         // One that is condemned for something else is given up all the same, and so is one that is silent.
         candidate.hanging = vec![2, 3];
         candidate.condemned = [1].into();
         candidate.look(1, &[1, 2, 3], &[], None);
-        assert_eq!(candidate.line(), Some(Line::Detect { server: 1 }));
+        assert_eq!(candidate.line(), Some(Line::detect(1)));
         candidate.hanging = vec![1, 2, 3];
         candidate.condemned.clear();
         candidate.look(6, &[2, 3], &[1], None);
-        assert_eq!(candidate.line(), Some(Line::Detect { server: 1 }));
+        assert_eq!(candidate.line(), Some(Line::detect(1)));
     }
 
     #[test]
@@ -310,7 +352,7 @@ mod tests {
         let letter = |server, number| Letter { server, number, piece: Bytes::from_static(&[1, 11]) };
         candidate.letters = vec![letter(2, 2), letter(1, 1)];
         assert!(matches!(candidate.line(), Some(Line::Take { server: 1, number: 1, .. })));
-        candidate.roster.feed(&Line::Detect { server: 1 }, []);
+        candidate.roster.feed(&Line::detect(1), []);
         assert_eq!(candidate.line(), None);
         candidate.letters.push(letter(2, 1));
         assert!(matches!(candidate.line(), Some(Line::Take { server: 2, number: 1, .. })));
@@ -325,7 +367,7 @@ mod tests {
         assert_eq!(candidate.line(), Some(Line::Join { server: 2 }));
         candidate.roster.feed(&Line::Join { server: 2 }, []);
         assert_eq!(candidate.line(), None);
-        candidate.roster.feed(&Line::Detect { server: 2 }, []);
+        candidate.roster.feed(&Line::detect(2), []);
         assert_eq!(candidate.line(), None);
     }
 
@@ -343,7 +385,7 @@ mod tests {
         candidate.look(2, &[1, 2], &[], Some(2));
         candidate.roster.feed(&Line::Join { server: 2 }, []);
         candidate.look(6, &[1], &[2], None);
-        assert_eq!(candidate.line(), Some(Line::Detect { server: 2 }));
+        assert_eq!(candidate.line(), Some(Line::detect(2)));
     }
 
     #[test]
@@ -354,31 +396,174 @@ mod tests {
         candidate.look(5, &[1, 2, 3], &[], None);
         assert_eq!(candidate.line(), None);
         candidate.look(1, &[1, 2, 3], &[], None);
-        assert_eq!(candidate.line(), Some(Line::Detect { server: 1 }));
+        assert_eq!(candidate.line(), Some(Line::detect(1)));
         candidate.deaf = vec![(2, 1), (1, 2)];
         candidate.look(1, &[1, 2, 3], &[], None);
-        assert_eq!(candidate.line(), Some(Line::Detect { server: 2 }), "both have one contact, so it is the later one");
+        assert_eq!(candidate.line(), Some(Line::detect(2)), "both have one contact, so it is the later one");
         candidate.deaf.clear();
         candidate.look(1, &[1, 2, 3], &[], None);
         assert_eq!(candidate.line(), None);
     }
 
+    /// The gateways of these stand ready, and that of the head ends again and again.
+    fn failing(candidate: &mut Candidate, ready: &[u32]) {
+        let readiness = Some(Readiness::Ready);
+        candidate.said =
+            ready.iter().map(|server| (*server, Beat { readiness: readiness.clone(), ..Beat::default() })).collect();
+        let head = candidate.roster.members[0];
+        let failing = Some(Failing { times: 2, why: "no keys".into() });
+        let said = Beat { gateway: Some(GatewayPhase::Begins), readiness, failing, ..Beat::default() };
+        candidate.said.insert(head, said);
+    }
+
+    /// Looks for so many seconds, in which all of the chain beat, and gateways of the head end.
+    fn look_for(candidate: &mut Candidate, seconds: u32) {
+        for _ in 0..2 * seconds {
+            let head = candidate.roster.members[0];
+            if let Some(failing) = candidate.said.get_mut(&head).and_then(|said| said.failing.as_mut()) {
+                failing.times += 1;
+            }
+            let members = candidate.roster.members.clone();
+            candidate.look(1, &members, &[], None);
+        }
+    }
+
+    const UNSERVED: Line = Line::Detect { server: 1, unserved: true };
+
     #[test]
-    fn a_head_that_no_front_reaches_is_given_up_unless_it_is_the_last_full_one() {
+    fn a_head_whose_gateway_cannot_begin_is_given_up_where_that_of_the_next_one_stands_ready() {
         let mut candidate = Candidate::new(3);
-        candidate.reached = vec![3];
-        candidate.look(8, &[1, 2, 3], &[], None);
+        failing(&mut candidate, &[2]);
+        look_for(&mut candidate, 10);
+        assert_eq!(candidate.line(), None);
+        look_for(&mut candidate, 2);
+        let (decision, why) = candidate.decide();
+        let Decision::Append { line, also, .. } = decision else { panic!("{decision:?}") };
+        assert_eq!((line, why), (UNSERVED, None));
+        assert!(also.contains(&Operation::Put(Keys::for_tests().detected(1), "1".into())));
+        // One that serves stays.
+        candidate.said.get_mut(&1).unwrap().gateway = Some(GatewayPhase::Acts);
+        look_for(&mut candidate, 1);
+        assert_eq!(candidate.decide(), (Decision::Nothing, None));
+    }
+
+    /// Why a candidate that has looked for so long does nothing.
+    fn kept(candidate: &mut Candidate, seconds: u32) -> String {
+        look_for(candidate, seconds);
+        let (decision, why) = candidate.decide();
+        assert_eq!(decision, Decision::Nothing);
+        why.unwrap()
+    }
+
+    #[test]
+    fn nobody_is_given_up_where_no_other_gateway_stands_ready() {
+        let mut candidate = Candidate::new(3);
+        failing(&mut candidate, &[]);
+        let why = kept(&mut candidate, 30);
+        assert_eq!(
+            why,
+            "the gateway of server 1 can't begin (no keys), and no other member's stands ready, or has for long"
+        );
+        let unready = Some(Readiness::Unready("no keys".into()));
+        candidate.said.insert(2, Beat { readiness: unready, ..Beat::default() });
+        assert!(kept(&mut candidate, 30).ends_with("no other member's stands ready, or has for long"));
+    }
+
+    #[test]
+    fn where_what_was_wrong_at_all_is_mended_the_head_has_ten_seconds_to_begin() {
+        let mut candidate = Candidate::new(3);
+        failing(&mut candidate, &[]);
+        assert!(kept(&mut candidate, 30).contains("no other member's stands ready"));
+        let ready = Beat { readiness: Some(Readiness::Ready), ..Beat::default() };
+        candidate.said.extend([(2, ready.clone()), (3, ready)]);
+        assert!(kept(&mut candidate, 10).contains("no other member's stands ready"));
+        look_for(&mut candidate, 1);
+        assert_eq!(candidate.line(), Some(UNSERVED));
+        candidate.said.get_mut(&1).unwrap().failing = None;
+        look_for(&mut candidate, 1);
+        assert_eq!(candidate.decide(), (Decision::Nothing, None));
+    }
+
+    #[test]
+    fn no_chain_gets_shorter_than_two_by_gateways() {
+        let mut two = Candidate::new(2);
+        failing(&mut two, &[2]);
+        assert!(kept(&mut two, 120).contains("without it one member would be left"));
+        // The next one couldn't serve, and without that one, too, one would be left.
+        let mut three = Candidate::new(3);
+        failing(&mut three, &[3]);
+        assert!(kept(&mut three, 120).contains("whose gateways don't stand ready"));
+        // Of four the second one goes behind the first.
+        let mut four = Candidate::new(4);
+        failing(&mut four, &[3]);
+        look_for(&mut four, 12);
+        assert_eq!(four.line(), Some(UNSERVED));
+    }
+
+    #[test]
+    fn no_two_heads_are_given_up_for_their_gateways_within_a_minute() {
+        let mut candidate = Candidate::new(5);
+        failing(&mut candidate, &[2, 3, 4]);
+        look_for(&mut candidate, 12);
+        assert_eq!(candidate.line(), Some(UNSERVED));
+        // It is this candidate that appends it, or another one.
+        candidate.roster.feed(&UNSERVED, []);
+        candidate.silence.head_was_given_up();
+        failing(&mut candidate, &[3, 4]);
+        assert!(kept(&mut candidate, 58).contains("less than a minute ago"));
+        look_for(&mut candidate, 3);
+        assert_eq!(candidate.line(), Some(Line::Detect { server: 2, unserved: true }));
+        // One that begins now has read of it in the log, and doesn't know when that was.
+        let mut young = Candidate::new(5);
+        young.roster.feed(&UNSERVED, []);
+        young.silence.head_was_given_up();
+        failing(&mut young, &[3, 4]);
+        assert!(kept(&mut young, 59).contains("less than a minute ago"));
+        // A head that is silent is given up all the same.
+        young.look(6, &[3, 4, 5], &[2], None);
+        assert_eq!(young.line(), Some(Line::detect(2)));
+    }
+
+    #[test]
+    fn a_head_that_reads_a_large_store_is_slow_and_one_that_stands_still_is_given_up() {
+        let mut candidate = Candidate::new(3);
+        failing(&mut candidate, &[2]);
+        for far in 0..60 {
+            let head = candidate.said.get_mut(&1).unwrap();
+            (head.failing, head.reading) = (None, Some(far));
+            look_for(&mut candidate, 1);
+            assert_eq!(candidate.line(), None);
+        }
+        look_for(&mut candidate, 11);
+        assert_eq!(candidate.line(), Some(UNSERVED));
+    }
+
+    #[test]
+    fn a_head_whose_gateway_no_front_reaches_is_given_up_unless_it_is_the_last_full_one() {
+        let mut candidate = Candidate::new(3);
+        failing(&mut candidate, &[2, 3]);
+        candidate.said.get_mut(&1).unwrap().failing = None;
+        look_for(&mut candidate, 11);
+        for (server, reach_this) in [(1, 0), (2, 1), (3, 0)] {
+            let said = candidate.said.get_mut(&server).unwrap();
+            said.witnesses = Some(Witnesses { head: 1, reach_head: 0, reach_this });
+        }
+        candidate.look(7, &[1, 2, 3], &[], None);
         assert_eq!(candidate.line(), None);
         candidate.look(1, &[1, 2, 3], &[], None);
-        assert_eq!(candidate.line(), Some(Line::Detect { server: 1 }));
-        candidate.reached = vec![1];
-        candidate.look(1, &[1, 2, 3], &[], None);
-        assert_eq!(candidate.line(), None);
+        assert_eq!(candidate.line(), Some(UNSERVED));
+        // The one that a front reaches doesn't stand ready, or isn't full.
+        candidate.said.get_mut(&2).unwrap().readiness = None;
+        assert!(kept(&mut candidate, 5).contains("no front reaches that of another member that stands ready"));
+        candidate.said.get_mut(&1).unwrap().witnesses = Some(Witnesses { head: 1, reach_head: 1, reach_this: 1 });
+        look_for(&mut candidate, 1);
+        assert_eq!(candidate.decide(), (Decision::Nothing, None));
         let mut last = Candidate::new(1);
-        last.roster.members = vec![1, 2];
-        last.reached = vec![2];
-        last.look(12, &[1, 2], &[], None);
-        assert_eq!(last.line(), None);
+        last.roster.members = vec![1, 2, 3];
+        last.said = candidate.said;
+        last.said.get_mut(&1).unwrap().witnesses = Some(Witnesses { head: 1, reach_head: 0, reach_this: 0 });
+        look_for(&mut last, 12);
+        assert_eq!(last.decide(), (Decision::Nothing, None));
     }
 
     #[test]
@@ -387,7 +572,7 @@ mod tests {
         candidate.roster.members = vec![1, 2, 3];
         candidate.deaf = vec![(2, 1), (3, 1)];
         candidate.look(8, &[1, 2, 3], &[], None);
-        assert_eq!(candidate.line(), Some(Line::Detect { server: 2 }));
+        assert_eq!(candidate.line(), Some(Line::detect(2)));
     }
 
     #[test]
@@ -397,6 +582,6 @@ mod tests {
         candidate.roster.feed(&Line::Join { server: 2 }, []);
         candidate.deaf = vec![(2, 1)];
         candidate.look(8, &[1, 2], &[], None);
-        assert_eq!(candidate.line(), Some(Line::Detect { server: 2 }));
+        assert_eq!(candidate.line(), Some(Line::detect(2)));
     }
 }

@@ -55,8 +55,9 @@ pub enum FromGateway {
     Request { stream: u64, clock: u64, request: Bytes },
     /// A query, as it is written. It goes to the server that acts; where none does, or it refuses, it is lost.
     Query { query: Bytes },
-    /// The gateway works: it has heard of this time.
-    Alive { time: u64 },
+    /// The gateway works: it has heard of this time. `far` changes as long as it moves on in taking up the store, and
+    /// `serves` says whether it takes connections.
+    Alive { time: u64, far: u64, serves: bool },
 }
 
 impl FromNode {
@@ -124,7 +125,11 @@ impl FromGateway {
                 out.run(request);
             }),
             FromGateway::Query { query } => frame(17, |out| out.run(query)),
-            FromGateway::Alive { time } => frame(18, |out| out.number64(*time)),
+            FromGateway::Alive { time, far, serves } => frame(18, |out| {
+                out.number64(*time);
+                out.number64(*far);
+                out.flag(*serves);
+            }),
         }
     }
 
@@ -134,7 +139,7 @@ impl FromGateway {
         let read = match from.byte()? {
             16 => FromGateway::Request { stream: from.number64()?, clock: from.number64()?, request: from.run()? },
             17 => FromGateway::Query { query: from.run()? },
-            18 => FromGateway::Alive { time: from.number64()? },
+            18 => FromGateway::Alive { time: from.number64()?, far: from.number64()?, serves: from.flag()? },
             _ => return Err(Malformed("its kind is none of what a gateway tells")),
         };
         from.end()?;
@@ -163,7 +168,7 @@ mod tests {
         let gateway = [
             FromGateway::Request { stream: 1, clock: 2, request: run.clone() },
             FromGateway::Query { query: run },
-            FromGateway::Alive { time: 3 },
+            FromGateway::Alive { time: 3, far: 4, serves: true },
         ];
         for one in node {
             let bytes = Bytes::from(one.bytes()).slice(4..);

@@ -63,7 +63,7 @@ impl Roster {
     pub fn feed(&mut self, line: &Line, orders: impl IntoIterator<Item = (u32, u64)>) {
         self.line += 1;
         match line {
-            Line::Detect { server } => self.detect(*server),
+            Line::Detect { server, .. } => self.detect(*server),
             Line::Join { server } => {
                 self.used.insert(*server);
                 self.joiner = Some(*server);
@@ -191,7 +191,7 @@ mod tests {
     fn a_lost_tail_drops_the_joiner() {
         let mut roster = Roster::of_first_chain(2);
         roster.feed(&Line::Join { server: 3 }, []);
-        roster.feed(&Line::Detect { server: 2 }, []);
+        roster.feed(&Line::detect(2), []);
         assert_eq!((&roster.members[..], roster.joiner, roster.is_ready), (&[1][..], None, false));
         assert!(roster.chain().used.contains(&3) && !roster.is_known_full(3) && roster.is_detected(2));
         roster.feed(&take(1, 1, 11, None), []);
@@ -203,7 +203,7 @@ mod tests {
         let mut roster = Roster::of_first_chain(2);
         let before = roster.chain();
         roster.feed(&Line::Join { server: 3 }, []);
-        roster.feed(&Line::Detect { server: 3 }, []);
+        roster.feed(&Line::detect(3), []);
         let behind = roster.chain();
         assert_eq!((behind.members, behind.joiner, behind.is_ready), (before.members, None, true));
     }

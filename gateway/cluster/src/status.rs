@@ -11,7 +11,9 @@ use tokio::time::sleep;
 use crate::decision::View;
 use crate::etcd::{Entry, Operation};
 use crate::memory::Size;
-use crate::records::{self, last_number, Beat, Chain, Cluster, Disk, GatewayPhase, JournalKind, Line, Registration};
+use crate::records::{
+    self, last_number, Beat, Chain, Cluster, Disk, Failing, GatewayPhase, JournalKind, Line, Readiness, Registration,
+};
 use crate::roster::Roster;
 use crate::silence::Silence;
 
@@ -19,7 +21,7 @@ use crate::silence::Silence;
 const LOOK: Duration = Duration::from_millis(1200);
 
 /// What is said of a server, for people.
-const COLUMNS: usize = 14;
+const COLUMNS: usize = 15;
 
 /// One server.
 #[derive(Debug, Serialize)]
@@ -42,6 +44,8 @@ struct Server {
     clients: usize,
     /// How many fronts were in contact with it at its last beat.
     fronts: usize,
+    /// How many of them reached the port of its gateway, if any said so.
+    fronts_at_gateway: Option<usize>,
     /// So many bytes its process had in memory at its last beat.
     memory_bytes: u64,
     /// What messages may use there, by the count of the gateway that acts.
@@ -52,6 +56,10 @@ struct Server {
     disk: Option<Disk>,
     /// How far its gateway is, by its last beat.
     gateway: Option<GatewayPhase>,
+    /// Whether a gateway would begin there; nothing where it has none.
+    gateway_is_ready: Option<bool>,
+    /// Why its gateway doesn't stand ready, or ends again and again.
+    gateway_fault: Option<String>,
 }
 
 /// A whole cluster.
@@ -110,6 +118,7 @@ pub async fn look(cluster: &Cluster) -> Result<Status> {
         Some(fault) if beating(&server) => format!("server {server} is condemned ({fault}), and {why}"),
         _ => format!("server {server} doesn't beat or is condemned, and {why}"),
     });
+    let waits = waits.or_else(|| why_unserved(&view));
     Ok(Status {
         cluster: cluster.name.clone(),
         incarnation: cluster.settings.incarnation.clone(),
@@ -119,6 +128,15 @@ pub async fn look(cluster: &Cluster) -> Result<Status> {
         detected: last.detected.clone(),
         waits,
     })
+}
+
+/// Why a head is there that doesn't serve, if it is.
+fn why_unserved(view: &View) -> Option<String> {
+    let (head, fault) = view.silence.unserving_now(view.roster, view.now)?;
+    // One look doesn't show since when a gateway stands ready.
+    let why = view.why_unserved(head, &fault, |_| true);
+    let why = why.unwrap_or("it is given up once that lasts, and no sooner than a minute behind another one");
+    Some(format!("the gateway of server {head} {fault}, and {why}"))
 }
 
 fn servers(look: &Look, beats: impl Fn(&u32) -> bool) -> Vec<Server> {
@@ -143,14 +161,26 @@ fn servers(look: &Look, beats: impl Fn(&u32) -> bool) -> Vec<Server> {
             fault: beat.condemned,
             clients: beat.clients,
             fronts: beat.fronts,
+            fronts_at_gateway: beat.witnesses.map(|said| said.reach_this),
             memory_bytes: beat.memory,
             memory_bound_bytes: look.registrations.get(&number).map_or(0, |registration| registration.memory),
             journal: look.registrations.get(&number).and_then(|registration| registration.journal),
             disk: beat.disk,
             gateway: beat.gateway,
+            gateway_is_ready: beat.readiness.as_ref().map(|readiness| *readiness == Readiness::Ready),
+            gateway_fault: fault_of_gateway(beat.readiness, beat.failing),
         }
     };
     all.map(server).collect()
+}
+
+/// What its own options say counts more than how it ended.
+fn fault_of_gateway(readiness: Option<Readiness>, failing: Option<Failing>) -> Option<String> {
+    match (readiness, failing) {
+        (Some(Readiness::Unready(why)), _) => Some(why),
+        (_, Some(Failing { times, why })) => Some(format!("{times} in a row ended early, the last one: {why}")),
+        (_, None) => None,
+    }
 }
 
 fn role(chain: &Chain, server: u32) -> &'static str {
@@ -186,10 +216,8 @@ async fn read(cluster: &Cluster) -> Result<Look> {
         Operation::all(&keys.all_condemned()),
         Operation::all(&keys.all_detected()),
     ];
-    let outcome = cluster.etcd.transact(&[cluster.guard()], &operations, &[]).await?;
-    anyhow::ensure!(outcome.succeeded, "the cluster of this name is another one now");
     let [chain, beats, nodes, condemned, detected]: [Vec<Entry>; 5] =
-        outcome.read.try_into().ok().context("etcd answers with too little")?;
+        cluster.read(&operations).await?.try_into().ok().context("etcd answers with too little")?;
     let numbers = |entries: &[Entry]| entries.iter().filter_map(|entry| last_number(&entry.key)).collect::<Vec<u32>>();
     let mut look = Look {
         chain: records::value(chain.first().context("the cluster has no chain")?)?,
@@ -243,7 +271,7 @@ impl Status {
         let mut out = String::new();
         let _ = writeln!(out, "cluster {} {}, line {} of the log", self.cluster, self.incarnation, self.line);
         let head = [
-            "server", "address", "role", "count", "lag", "beats", "hears", "full", "acts", "fronts", "memory",
+            "server", "address", "role", "count", "lag", "beats", "hears", "full", "acts", "fronts", "reach", "memory",
             "journal", "disk", "gateway",
         ];
         let head = head.map(String::from);
@@ -253,6 +281,11 @@ impl Status {
         for row in &rows {
             let cells: Vec<String> = row.iter().zip(&widths).map(|(cell, width)| format!("{cell:width$}")).collect();
             let _ = writeln!(out, "{}", cells.join("  ").trim_end());
+        }
+        for server in &self.servers {
+            if let Some(why) = &server.gateway_fault {
+                let _ = writeln!(out, "the gateway of server {} doesn't stand ready: {why}", server.number);
+            }
         }
         if !self.is_ready {
             let _ = writeln!(out, "the last member doesn't act yet");
@@ -278,6 +311,7 @@ fn row(server: &Server) -> [String; COLUMNS] {
         yes(server.is_full),
         yes(server.is_acting),
         server.fronts.to_string(),
+        server.fronts_at_gateway.map_or_else(|| "-".into(), |count| count.to_string()),
         format!("{}/{}", Size(server.memory_bytes), Size(server.memory_bound_bytes)),
         match server.journal {
             Some(JournalKind::Durable) => "durable".into(),
@@ -288,10 +322,12 @@ fn row(server: &Server) -> [String; COLUMNS] {
             Some(disk) => format!("{}/{}", Size(disk.free), Size(disk.reserve)),
             None => "-".into(),
         },
-        match server.gateway {
-            Some(GatewayPhase::Acts) => "acts".into(),
-            Some(GatewayPhase::Begins) => "begins".into(),
-            None => "-".into(),
+        match (server.gateway, server.gateway_is_ready) {
+            (Some(GatewayPhase::Acts), _) => "acts".into(),
+            (Some(GatewayPhase::Begins), _) => "begins".into(),
+            (None, Some(true)) => "ready".into(),
+            (None, Some(false)) => "unready".into(),
+            (None, None) => "-".into(),
         },
     ]
 }
@@ -307,5 +343,15 @@ mod tests {
         assert_eq!([2, 4, 3, 5, 6].map(|server| role(&chain, server)), ["head", "middle", "tail", "joins", "waits"]);
         let alone = Chain { members: vec![2], ..chain };
         assert_eq!(role(&alone, 2), "only");
+    }
+
+    #[test]
+    fn a_gateways_fault_is_what_is_wrong_with_its_options_or_else_how_it_ended() {
+        let failing = || Some(Failing { times: 3, why: "it ended with status 1".into() });
+        let unready = Some(Readiness::Unready("no keys".into()));
+        assert_eq!(fault_of_gateway(unready, failing()).unwrap(), "no keys");
+        let ended = fault_of_gateway(Some(Readiness::Ready), failing()).unwrap();
+        assert_eq!(ended, "3 in a row ended early, the last one: it ended with status 1");
+        assert_eq!(fault_of_gateway(Some(Readiness::Ready), None), None);
     }
 }

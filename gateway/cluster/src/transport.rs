@@ -2,6 +2,7 @@
 
 use std::future::Future;
 use std::io;
+use std::os::fd::AsRawFd;
 use std::pin::Pin;
 use std::sync::{Arc, Mutex};
 use std::task::{Context, Poll};
@@ -165,6 +166,23 @@ fn tell_of(error: Option<&io::Error>, at: &str, said: &Mutex<String>) {
 pub enum Stream {
     Tcp(TcpStream),
     Tls(Box<TlsStream<TcpStream>>),
+}
+
+impl Stream {
+    /// The connection ends where the system at the other end has acknowledged nothing of what was written for so long.
+    pub fn end_where_unacknowledged(&self, time: Duration) -> io::Result<()> {
+        let socket = match self {
+            Stream::Tcp(stream) => stream.as_raw_fd(),
+            Stream::Tls(stream) => stream.get_ref().0.as_raw_fd(),
+        };
+        let milliseconds = libc::c_uint::try_from(time.as_millis()).unwrap_or(libc::c_uint::MAX);
+        let (value, size) = (std::ptr::addr_of!(milliseconds), std::mem::size_of::<libc::c_uint>() as u32);
+        // SAFETY: the socket is open, and the call reads no more than `size` bytes.
+        match unsafe { libc::setsockopt(socket, libc::IPPROTO_TCP, libc::TCP_USER_TIMEOUT, value.cast(), size) } {
+            0 => Ok(()),
+            _ => Err(io::Error::last_os_error()),
+        }
+    }
 }
 
 impl Connection for Stream {

@@ -34,8 +34,11 @@ pub enum Frame {
     Message { frame: u64, place: Place, piece: Bytes },
     /// That server was detected.
     Gone { frame: u64, server: u32 },
-    /// The cluster's time at the sender; 0 from a front. A front is answered by one.
+    /// The cluster's time at the sender; 0 from a front that knows of no head. A front is answered by one.
     Ping { time: u64 },
+    /// A front's ping: which server it takes for the head, whether it reaches the port of that one's gateway, and whether that
+    /// of the gateway beside the node that is pinged.
+    Reach { head: u32, reaches_head: bool, reaches_this: bool },
     /// Requests of a stream.
     Batch { stream: u64, requests: Vec<Bytes> },
     /// A query of a stream.
@@ -93,6 +96,11 @@ impl Frame {
                 out.run(query);
             }),
             Frame::Front { about } => frame(7, |out| put_about(out, about)),
+            Frame::Reach { head, reaches_head, reaches_this } => frame(8, |out| {
+                out.number32(*head);
+                out.flag(*reaches_head);
+                out.flag(*reaches_this);
+            }),
             Frame::Welcome { received, gone } => frame(16, |out| {
                 out.number64(*received);
                 out.servers(gone);
@@ -130,6 +138,7 @@ impl Frame {
             5 => Frame::Batch { stream: from.number64()?, requests: runs(&mut from)? },
             6 => Frame::Query { stream: from.number64()?, query: from.run()? },
             7 => Frame::Front { about: about(&mut from)? },
+            8 => Frame::Reach { head: from.server()?, reaches_head: from.flag()?, reaches_this: from.flag()? },
             16 => Frame::Welcome { received: from.number64()?, gone: from.servers()? },
             17 => Frame::Received { frame: from.number64()? },
             18 => Frame::Standing { server: from.server()?, is_head: from.flag()?, is_acting: from.flag()? },
@@ -184,6 +193,7 @@ mod tests {
             Frame::Message { frame: 1, place, piece: piece.clone() },
             Frame::Gone { frame: 2, server: 3 },
             Frame::Ping { time: 5 },
+            Frame::Reach { head: 3, reaches_head: false, reaches_this: true },
             Frame::Batch { stream: 1, requests: vec![piece.clone(), Bytes::new()] },
             Frame::Query { stream: 1, query: piece.clone() },
             Frame::Welcome { received: 9, gone: vec![] },

@@ -20,6 +20,10 @@ static UNTIL: HeaderName = HeaderName::from_static("x-hobbychair-until");
 /// That a front has asked before.
 static AGAIN: HeaderName = HeaderName::from_static("x-hobbychair-again");
 
+/// For how many bytes of an answer a front has room; in an answer, how many it needs room for, where nothing was received for
+/// want of that.
+static ROOM: HeaderName = HeaderName::from_static("x-hobbychair-room");
+
 /// The cluster's time at the gateway that acts, in milliseconds, in each of its answers to fronts.
 static TIME: HeaderName = HeaderName::from_static("x-hobbychair-time");
 
@@ -54,6 +58,8 @@ pub struct Try {
     pub until: u64,
     /// There was a try before.
     pub is_again: bool,
+    /// For how many bytes of an answer there is room, where it is a receive's.
+    pub room: Option<usize>,
 }
 
 impl Try {
@@ -63,6 +69,7 @@ impl Try {
         if self.is_again {
             said.push((&AGAIN, HeaderValue::from_static("true")));
         }
+        said.extend(self.room.map(|room| (&ROOM, HeaderValue::from(room))));
         said
     }
 }
@@ -84,8 +91,7 @@ impl Asked {
         }
         take_those_of_connection(&mut headers);
         // These are the front's own to say.
-        headers.remove(&UNTIL);
-        headers.remove(&AGAIN);
+        [&UNTIL, &AGAIN, &ROOM].into_iter().for_each(|own| drop(headers.remove(own)));
         // The body has one length, however it came.
         if headers.remove(CONTENT_LENGTH).is_some() || !body.is_empty() {
             headers.insert(CONTENT_LENGTH, body.len().into());
@@ -146,11 +152,17 @@ pub fn time_of<B>(response: &Response<B>) -> Option<u64> {
     response.headers().get(&TIME)?.to_str().ok()?.parse().ok()
 }
 
+/// How many bytes there has to be room for before the gateway receives anything, if it says so.
+pub fn room_needed<B>(response: &Response<B>) -> Option<usize> {
+    response.headers().get(&ROOM)?.to_str().ok()?.parse().ok()
+}
+
 /// An answer as the client gets it.
 pub fn as_answered(mut response: Response<Bytes>, was_head: bool) -> Response<Bytes> {
     let headers = response.headers_mut();
     take_those_of_connection(headers);
     headers.remove(&TIME);
+    headers.remove(&ROOM);
     if !was_head {
         headers.remove(CONTENT_LENGTH);
     }
@@ -224,9 +236,11 @@ mod tests {
             .header("transfer-encoding", "chunked")
             .header("x-hobbychair-until", "9")
             .header("x-hobbychair-again", "true")
+            .header("x-hobbychair-room", "9")
             .header("amz-sdk-invocation-id", "call");
         let asked = asked(request, "body").unwrap();
-        let tries = [None, Some(false), Some(true)].map(|is_again| Some(Try { until: 7, is_again: is_again? }));
+        let tries =
+            [None, Some(false), Some(true)].map(|is_again| Some(Try { until: 7, is_again: is_again?, room: None }));
         for tried in tries {
             let passed = asked.at(ADDRESS.into(), tried).unwrap();
             assert_eq!(

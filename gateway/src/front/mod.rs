@@ -1,5 +1,6 @@
 //! A front of a cluster: it passes requests on to the gateway that acts, and keeps no state (docs/CLUSTER.md, "Fronts").
 
+mod contact;
 mod headers;
 mod operators;
 mod passing;
@@ -38,7 +39,9 @@ use crate::http::{bodies, is_of_this_machine, listen, protocol_of, refused, to_b
 use crate::http::{Progress, Watched, LONGEST_HEAD};
 use crate::serve::{listen_for_operators, log_read_again, notify_supervisor, say};
 use crate::tls::{Certificate, LONGEST_HANDSHAKE};
+use crate::wire::Action;
 
+use self::contact::Contact;
 use self::headers::{Asked, Came};
 use self::operators::{Figures, Operators};
 use self::passing::Passing;
@@ -98,12 +101,14 @@ pub async fn serve(settings: Settings) -> Result<()> {
     let operators = settings.admin.as_ref().map(listen_for_operators).transpose()?;
     let identity = settings.files.identity(&settings.cluster, &[Role::Front, Role::Node])?;
     let follower = Follower::begin(&settings.cluster, &settings.etcd, identity.clone()).await?;
+    let contact = Arc::new(Contact::default());
     if let Some(listener) = operators {
-        let told = Operators { figures: figures.clone(), follower: follower.clone() };
+        let told = Operators { figures: figures.clone(), follower: follower.clone(), contact: contact.clone() };
         let answer = move |request| std::future::ready((told.answer(&request), None));
         tokio::spawn(serve_operators(listener, places.operators, Hosts::new(&[], None), answer));
     }
-    let passing = Passing::new(follower, identity, figures.clone());
+    let passing = Arc::new(Passing::new(follower.clone(), identity, figures.clone(), contact));
+    tokio::spawn(passing.clone().keep_contact());
     let scheme = if certificate.is_some() { "https" } else { "http" };
     let budget = Budget::new(settings.request_memory);
     let front = Arc::new(Front { testing, passing, figures, budget, certificate });
@@ -114,6 +119,7 @@ pub async fn serve(settings: Settings) -> Result<()> {
     tokio::select! {
         _ = interrupt.recv() => {}
         _ = terminate.recv() => {}
+        why = follower.ends() => anyhow::bail!("this front ends: {why}"),
         ended = &mut served => anyhow::bail!("the server ended: {ended:?}"),
     }
     notify_supervisor(sd_notify::NotifyState::Stopping);
@@ -140,7 +146,7 @@ async fn read_again(mut hangups: Signal, testing: Testing, certificate: Option<A
 /// What all connections share.
 struct Front {
     testing: Testing,
-    passing: Passing,
+    passing: Arc<Passing>,
     figures: Arc<Figures>,
     budget: Budget,
     /// What clients are shown, where they speak TLS.
@@ -253,11 +259,12 @@ impl Visit {
             Err(error) => return refused(protocol, &error, Uuid::new_v4(), true),
         };
         self.progress.is_read();
-        if let Err(unread) = self.front.testing.test(&head, &body) {
-            return unread.response(protocol, Uuid::new_v4());
-        }
+        let receives = match self.front.testing.test(&head, &body) {
+            Ok(action) => action == Action::ReceiveMessage,
+            Err(unread) => return unread.response(protocol, Uuid::new_v4()),
+        };
         let passed = match Asked::of(head, body, self.came) {
-            Some(asked) => self.front.passing.pass(&asked, arrived, &self.share).await,
+            Some(asked) => self.front.passing.pass(&asked, receives, arrived, &self.share).await,
             None => Err(SqsError::InvalidParameterValue("A front can't pass this request on.".into())),
         };
         passed.unwrap_or_else(|error| refused(protocol, &error, Uuid::new_v4(), false))

@@ -8,7 +8,9 @@ use hobbychair_cluster::acting::Follower;
 use hyper::header::{HeaderValue, CONTENT_TYPE};
 use hyper::{Body, Method, Request, Response, StatusCode};
 use prometheus::{Encoder, Histogram, HistogramOpts, IntCounter, IntCounterVec, IntGauge, Opts, Registry, TextEncoder};
+use tokio::time::Instant;
 
+use super::contact::Contact;
 use crate::admin::text;
 use crate::metrics::{Metrics, SECONDS};
 
@@ -89,20 +91,39 @@ impl Drop for Open {
 pub struct Operators {
     pub figures: Arc<Figures>,
     pub follower: Follower,
+    pub contact: Arc<Contact>,
 }
 
 impl Operators {
-    /// `/health` is good where it is known which gateway acts.
+    /// `/health` is good where the gateway that acts answers.
     pub fn answer(&self, request: &Request<Body>) -> Response<Bytes> {
         if !matches!(*request.method(), Method::GET | Method::HEAD) {
             return text(StatusCode::METHOD_NOT_ALLOWED, "There is only GET here.\n".into());
         }
         let acting = self.follower.acting().map_or(0, |acting| acting.server);
         match request.uri().path() {
-            "/health" if acting > 0 => text(StatusCode::OK, format!("serving by the gateway of server {acting}\n")),
-            "/health" => text(StatusCode::SERVICE_UNAVAILABLE, "waiting: no gateway of the cluster is known\n".into()),
+            "/health" => match self.trouble(acting) {
+                None => text(StatusCode::OK, format!("serving by the gateway of server {acting}\n")),
+                Some(why) => text(StatusCode::SERVICE_UNAVAILABLE, format!("waiting: {why}\n")),
+            },
             "/metrics" => self.metrics(acting),
             _ => text(StatusCode::NOT_FOUND, "There are /health and /metrics here.\n".into()),
+        }
+    }
+
+    /// Why requests aren't answered now, as far as that is known.
+    fn trouble(&self, acting: u32) -> Option<String> {
+        let (trouble, away) = (self.contact.trouble(Instant::now()), self.follower.why_away());
+        match (acting, trouble, away) {
+            (0, _, None) => Some("no gateway of the cluster is known".into()),
+            (0, _, Some(away)) => {
+                Some(format!("no gateway of the cluster is known, and there is no contact with etcd: {away}"))
+            }
+            (_, None, _) => None,
+            (server, Some(why), None) => Some(format!("the gateway of server {server} doesn't answer: {why}")),
+            (server, Some(why), Some(away)) => {
+                Some(format!("neither the gateway of server {server} answers ({why}) nor etcd ({away})"))
+            }
         }
     }
 
@@ -134,10 +155,15 @@ mod tests {
     #[test]
     fn a_front_is_well_where_a_gateway_acts_and_its_requests_are_counted() {
         let (tell, follower) = Follower::for_tests();
-        let operators = Operators { figures: Arc::new(Figures::new().unwrap()), follower };
-        assert_eq!(get(&operators, "/health").0, 503);
+        let contact = Arc::new(Contact::default());
+        let operators = Operators { figures: Arc::new(Figures::new().unwrap()), follower, contact: contact.clone() };
+        let waits = |why: &str| (503, format!("waiting: {why}\n"));
+        assert_eq!(get(&operators, "/health"), waits("no gateway of the cluster is known"));
         let address = "127.0.0.1:9".parse().unwrap();
         tell.send_replace(Some(Acting { server: 3, address, certificate: None }));
+        contact.fails(Instant::now(), &"no way");
+        assert_eq!(get(&operators, "/health"), waits("the gateway of server 3 doesn't answer: no way"));
+        contact.goes_well(Instant::now());
         assert_eq!(get(&operators, "/health"), (200, "serving by the gateway of server 3\n".into()));
         let open = operators.figures.passes();
         operators.figures.is_asked_again();

@@ -36,6 +36,9 @@ const ALIVE: Duration = Duration::from_millis(500);
 /// A gateway that takes nothing for so long isn't heard any more.
 const WRITING: Duration = Duration::from_secs(2);
 
+/// A gateway whose system takes nothing for so long isn't asked any more: it isn't reached, though it may be heard.
+const UNACKNOWLEDGED: Duration = Duration::from_secs(2);
+
 /// So much room is kept for what is to be written.
 const MOST_KEPT: usize = 256 << 10;
 
@@ -115,6 +118,9 @@ impl Streams {
         let mut connector = self.connector.clone();
         std::future::poll_fn(|context| connector.poll_ready(context)).await.map_err(Failed::NoConnection)?;
         let carrier = connector.call(uri).await.map_err(Failed::NoConnection)?;
+        if let Err(error) = carrier.end_where_unacknowledged(UNACKNOWLEDGED) {
+            tracing::warn!(%error, "a cut of one way will be noticed late");
+        }
         let (mut sender, connection) = handshake(carrier).await?;
         tokio::spawn(connection);
         let response = sender.send_request(asking_for_calls()).await?;
@@ -128,7 +134,7 @@ impl Streams {
             _ => return Ok(None),
         }
         let parts = hyper::upgrade::on(response).await?.downcast::<Carrier>().map_err(|_| Failed::Unwritable)?;
-        let stream = Arc::new(Stream::default());
+        let stream = Arc::new(Stream::begin_now());
         let frames = (parts.read_buf, self.times.clone());
         tokio::spawn(stream.clone().keep(acting.server, parts.io, frames));
         Ok(Some(stream))
@@ -148,9 +154,10 @@ fn lock<T>(mutex: &Mutex<T>) -> MutexGuard<'_, T> {
 }
 
 /// A connection of calls.
-#[derive(Default)]
 pub struct Stream {
     state: Mutex<State>,
+    /// When something of the gateway came last.
+    heard: Mutex<Instant>,
     /// There is something to write, or the end has come.
     wake: Notify,
 }
@@ -201,6 +208,15 @@ impl Drop for Asked<'_> {
 }
 
 impl Stream {
+    fn begin_now() -> Stream {
+        Stream { state: Mutex::default(), heard: Mutex::new(Instant::now()), wake: Notify::new() }
+    }
+
+    /// When the gateway was heard last.
+    pub fn heard(&self) -> Instant {
+        *lock(&self.heard)
+    }
+
     /// The answer to a call. There has to be room for what was read of it.
     pub async fn ask(&self, call: PassedOn<'_>, has_room: impl Fn(usize) -> bool) -> Result<Response<Bytes>, Failed> {
         let (sender, answered) = oneshot::channel();
@@ -263,6 +279,7 @@ impl Stream {
     async fn read(&self, mut frames: Frames<impl AsyncRead + Unpin>, server: u32, times: &Times) -> io::Result<()> {
         loop {
             let frame = timeout(QUIET, frames.next()).await??;
+            *lock(&self.heard) = Instant::now();
             match FromGateway::read(frame).map_err(|malformed| io::Error::new(io::ErrorKind::InvalidData, malformed))? {
                 FromGateway::Time { time: Some(time) } => times.learn(server, time, Instant::now()),
                 // Its store is gone, so that it knows of no time any more.

@@ -2,7 +2,7 @@
 
 use std::io;
 use std::net::{SocketAddr, ToSocketAddrs};
-use std::os::unix::io::{AsRawFd, RawFd};
+use std::os::unix::io::{AsRawFd, FromRawFd, OwnedFd, RawFd};
 use std::sync::Arc;
 use std::time::Duration;
 
@@ -36,23 +36,57 @@ const PAUSE: Duration = Duration::from_millis(50);
 
 /// A socket that listens at the first address of `host` that can be had. Brackets round an address of IPv6 are taken.
 pub fn listen(host: &str, port: u16) -> io::Result<TcpListener> {
+    bound(host, port)?.listen(BACKLOG)
+}
+
+/// An error where nobody could listen there now. Whoever listens there next isn't held up.
+pub fn test_free(host: &str, port: u16) -> io::Result<()> {
+    bound(host, port).map(drop)
+}
+
+fn bound(host: &str, port: u16) -> io::Result<TcpSocket> {
     let host = host.strip_prefix('[').and_then(|rest| rest.strip_suffix(']')).unwrap_or(host);
     let mut last = io::Error::new(io::ErrorKind::InvalidInput, "it is no address");
     for address in (host, port).to_socket_addrs()? {
-        match listen_at(address) {
-            Ok(listener) => return Ok(listener),
+        match bound_at(address) {
+            Ok(socket) => return Ok(socket),
             Err(error) => last = error,
         }
     }
     Err(last)
 }
 
-fn listen_at(address: SocketAddr) -> io::Result<TcpListener> {
+fn bound_at(address: SocketAddr) -> io::Result<TcpSocket> {
     let socket = if address.is_ipv4() { TcpSocket::new_v4()? } else { TcpSocket::new_v6()? };
     // So that a gateway can begin again at once. A second one still finds the address in use.
     socket.set_reuseaddr(true)?;
     socket.bind(address)?;
-    socket.listen(BACKLOG)
+    Ok(socket)
+}
+
+/// A socket that listens, and that the process which started this one shares by this number. An error where it is none.
+pub fn shared(socket: RawFd) -> io::Result<TcpListener> {
+    if !(is_listening(socket)?) {
+        return Err(io::Error::new(io::ErrorKind::InvalidInput, format!("file {socket} doesn't listen")));
+    }
+    // SAFETY: the file is open, and whoever named it gave it to this process. Nothing else here knows of it.
+    let listener = std::net::TcpListener::from(unsafe { OwnedFd::from_raw_fd(socket) });
+    // SAFETY: the call touches no memory of this process.
+    if unsafe { libc::fcntl(socket, libc::F_SETFD, libc::FD_CLOEXEC) } != 0 {
+        return Err(io::Error::last_os_error());
+    }
+    listener.set_nonblocking(true)?;
+    TcpListener::from_std(listener)
+}
+
+fn is_listening(socket: RawFd) -> io::Result<bool> {
+    let (mut listens, mut size): (libc::c_int, libc::socklen_t) = (0, std::mem::size_of::<libc::c_int>() as u32);
+    let (level, option) = (libc::SOL_SOCKET, libc::SO_ACCEPTCONN);
+    // SAFETY: the call writes no more than `size` bytes to `listens`, and `size`.
+    match unsafe { libc::getsockopt(socket, level, option, std::ptr::addr_of_mut!(listens).cast(), &mut size) } {
+        0 => Ok(listens != 0),
+        _ => Err(io::Error::last_os_error()),
+    }
 }
 
 /// How connections are taken in.
@@ -122,7 +156,7 @@ impl Door {
             return match shaken {
                 Ok(Ok(stream)) => Box::pin(self.converse(stream, socket, peer, is_served, ending)).await,
                 // Somebody looked whether the port is open.
-                Ok(Err(error)) if error.kind() == io::ErrorKind::UnexpectedEof => {}
+                Ok(Err(error)) if has_gone(&error) => {}
                 Ok(Err(error)) => tracing::warn!(%peer, %error, "who is no front of the cluster is refused"),
                 Err(_) => tracing::warn!(%peer, "who says nothing is refused"),
             };
@@ -191,6 +225,10 @@ impl Door {
     }
 }
 
+fn has_gone(error: &io::Error) -> bool {
+    matches!(error.kind(), io::ErrorKind::UnexpectedEof | io::ErrorKind::ConnectionReset)
+}
+
 /// Takes in a front of the cluster. A node may be one, too.
 async fn take_in(identity: &Identity, stream: TcpStream) -> io::Result<TlsStream<TcpStream>> {
     let (stream, peer) = identity.accept(stream).await?;
@@ -254,6 +292,31 @@ async fn enter(open: &Arc<Semaphore>, turned_away: &Arc<Semaphore>) -> Option<(O
 #[cfg(test)]
 mod tests {
     use super::*;
+
+    #[tokio::test]
+    async fn a_socket_that_listens_can_be_shared_and_nothing_else() {
+        use std::os::unix::io::IntoRawFd;
+        let listener = std::net::TcpListener::bind("127.0.0.1:0").unwrap();
+        let at = listener.local_addr().unwrap();
+        let listener = shared(listener.into_raw_fd()).unwrap();
+        let (connected, accepted) = tokio::join!(TcpStream::connect(at), listener.accept());
+        assert_eq!(connected.unwrap().local_addr().unwrap(), accepted.unwrap().1);
+        let bound = bound("127.0.0.1", 0).unwrap();
+        let error = shared(bound.as_raw_fd()).unwrap_err();
+        assert!(error.to_string().ends_with("doesn't listen"), "{error}");
+        assert!(shared(0).is_err() && shared(-1).is_err());
+    }
+
+    #[tokio::test]
+    async fn an_address_is_free_unless_somebody_listens_there() {
+        let first = listen("127.0.0.1", 0).unwrap();
+        let port = first.local_addr().unwrap().port();
+        assert_eq!(test_free("127.0.0.1", port).unwrap_err().kind(), io::ErrorKind::AddrInUse);
+        drop(first);
+        let kept = bound("127.0.0.1", port).unwrap();
+        assert!(test_free("127.0.0.1", port).is_ok() && listen("127.0.0.1", port).is_ok(), "a try holds nobody up");
+        drop(kept);
+    }
 
     #[tokio::test]
     async fn whoever_waits_to_be_turned_away_is_served_where_that_is_free_first() {

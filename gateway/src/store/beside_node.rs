@@ -1,6 +1,7 @@
 //! What a node tells at the start of the gateway beside it: the time, and the store of the head.
 
 use std::os::unix::io::AsFd;
+use std::sync::atomic::{AtomicU64, Ordering};
 
 use hobbychair_cluster::parts::{Cutter, Malformed, FRAME_LIMIT};
 use hobbychair_cluster::pipe::{FromGateway, FromNode};
@@ -33,9 +34,9 @@ pub enum BesideNodeError {
 }
 
 /// Takes up the store that the node at the other end of standard input tells. Gives the node, and what of its words was read and
-/// comes behind the store.
-pub async fn take_up(clock: &Clock, take: &mut Take<'_>) -> Result<(Cq, NodeStart), BesideNodeError> {
-    take_up_from(socket().map_err(|_| BesideNodeError::NoSocket)?, clock, take).await
+/// comes behind the store. The node is told how far this is.
+pub async fn take_up(clock: &Clock, far: &AtomicU64, take: &mut Take<'_>) -> Result<(Cq, NodeStart), BesideNodeError> {
+    take_up_from(socket().map_err(|_| BesideNodeError::NoSocket)?, clock, far, take).await
 }
 
 fn socket() -> std::io::Result<UnixStream> {
@@ -52,7 +53,7 @@ pub async fn wait_for<T>(
     work: JoinHandle<T>,
     cq: &mut Cq,
     node: &mut NodeStart,
-    clock: &Clock,
+    (clock, far): (&Clock, &AtomicU64),
 ) -> Result<T, BesideNodeError> {
     let mut cutter = Cutter { buffer: std::mem::take(&mut node.incoming) };
     tokio::pin!(work);
@@ -61,7 +62,7 @@ pub async fn wait_for<T>(
         tokio::select! {
             made = &mut work, if done.is_none() => done = Some(made.map_err(|_| BesideNodeError::Failed)?),
             told = next(cq, &mut cutter) => match told? {
-                FromNode::Time { time, since_start } => say_alive(cq, clock, time, since_start).await?,
+                FromNode::Time { time, since_start } => say_alive(cq, (clock, far), time, since_start).await?,
                 FromNode::Stored { server } => node.server = server,
                 // It is about nothing that this gateway asked, or comes again.
                 _ => {}
@@ -72,22 +73,28 @@ pub async fn wait_for<T>(
     done.ok_or(BesideNodeError::Failed)
 }
 
-async fn say_alive(cq: &mut Cq, clock: &Clock, time: u64, since_start: u64) -> Result<(), CqError> {
+async fn say_alive(
+    cq: &mut Cq,
+    (clock, far): (&Clock, &AtomicU64),
+    time: u64,
+    since_start: u64,
+) -> Result<(), CqError> {
     clock.follow(time, since_start);
-    let alive = FromGateway::Alive { time }.bytes();
+    let alive = FromGateway::Alive { time, far: far.load(Ordering::Relaxed), serves: false }.bytes();
     cq.input.write_all(&alive).await.map_err(|_| CqError::NodeGone)
 }
 
 async fn take_up_from(
     socket: UnixStream,
     clock: &Clock,
+    far: &AtomicU64,
     take: &mut Take<'_>,
 ) -> Result<(Cq, NodeStart), BesideNodeError> {
     let (mut cq, mut cutter) = (Cq::of_node(socket), Cutter::default());
     let mut paused = None;
     loop {
         match next(&mut cq, &mut cutter).await? {
-            FromNode::Time { time, since_start } => say_alive(&mut cq, clock, time, since_start).await?,
+            FromNode::Time { time, since_start } => say_alive(&mut cq, (clock, far), time, since_start).await?,
             FromNode::Chunk { chunk } if chunk.is_empty() => {
                 return Ok((cq, NodeStart { server: 0, paused, incoming: cutter.buffer }))
             }
@@ -128,23 +135,26 @@ mod tests {
         let (reading, mut writing) = node.into_split();
         let mut reading = Frames::new(reading, FRAME_LIMIT);
         let (done, is_done) = std::sync::mpsc::channel::<()>();
+        let far = AtomicU64::new(7);
         let work = tokio::task::spawn_blocking(move || is_done.recv().is_ok());
         let node = async {
             for time in [7, 8] {
                 writing.write_all(&FromNode::Time { time, since_start: 0 }.bytes()).await.unwrap();
                 writing.write_all(&FromNode::Acts.bytes()).await.unwrap();
                 let heard = tokio::time::timeout(Duration::from_secs(10), reading.next()).await.unwrap().unwrap();
-                assert_eq!(FromGateway::read(heard), Ok(FromGateway::Alive { time }));
+                assert_eq!(FromGateway::read(heard), Ok(FromGateway::Alive { time, far: time, serves: false }));
+                // It gets further.
+                far.store(time + 1, Ordering::Relaxed);
             }
             done.send(()).unwrap();
             // Its server isn't the head yet, and the time is told on.
             writing.write_all(&FromNode::Time { time: 9, since_start: 0 }.bytes()).await.unwrap();
             let heard = tokio::time::timeout(Duration::from_secs(10), reading.next()).await.unwrap().unwrap();
-            assert_eq!(FromGateway::read(heard), Ok(FromGateway::Alive { time: 9 }));
+            assert_eq!(FromGateway::read(heard), Ok(FromGateway::Alive { time: 9, far: 9, serves: false }));
             writing.write_all(&FromNode::Stored { server: 3 }.bytes()).await.unwrap();
         };
         let mut cq = Cq::of_node(gateway);
-        let (made, ()) = tokio::join!(wait_for(work, &mut cq, &mut start, &clock), node);
+        let (made, ()) = tokio::join!(wait_for(work, &mut cq, &mut start, (&clock, &far)), node);
         assert!(made.unwrap() && start.server == 3);
     }
 
@@ -156,7 +166,8 @@ mod tests {
         let work = tokio::task::spawn_blocking(move || is_done.recv().is_ok());
         node.write_all(&FromNode::Stored { server: 2 }.bytes()).await.unwrap();
         let mut cq = Cq::of_node(gateway);
-        let (made, ()) = tokio::join!(wait_for(work, &mut cq, &mut start, &clock), async {
+        let far = AtomicU64::new(0);
+        let (made, ()) = tokio::join!(wait_for(work, &mut cq, &mut start, (&clock, &far)), async {
             tokio::time::sleep(Duration::from_millis(20)).await;
             done.send(()).unwrap();
         });
@@ -167,7 +178,7 @@ mod tests {
     async fn a_store_that_ends_without_its_last_chunk_is_none() {
         let (gateway, mut node) = UnixStream::pair().unwrap();
         node.write_all(&FromNode::Stored { server: 1 }.bytes()).await.unwrap();
-        assert!(take_up_from(gateway, &Clock::new(), &mut |_| Ok(())).await.is_err());
+        assert!(take_up_from(gateway, &Clock::new(), &AtomicU64::new(0), &mut |_| Ok(())).await.is_err());
     }
 
     #[tokio::test]
@@ -178,7 +189,7 @@ mod tests {
         {
             node.write_all(&told.bytes()).await.unwrap();
         }
-        let (_cq, start) = take_up_from(gateway, &Clock::new(), &mut |_| Ok(())).await.unwrap();
+        let (_cq, start) = take_up_from(gateway, &Clock::new(), &AtomicU64::new(0), &mut |_| Ok(())).await.unwrap();
         assert_eq!((start.server, start.paused), (0, Some((5, 9))));
     }
 }

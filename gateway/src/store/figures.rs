@@ -1,6 +1,6 @@
 //! What operators look at.
 
-use std::sync::atomic::{AtomicU64, AtomicUsize, Ordering};
+use std::sync::atomic::{AtomicBool, AtomicU64, AtomicUsize, Ordering};
 
 use super::Store;
 
@@ -28,9 +28,15 @@ pub(super) struct Counters {
     restarts: AtomicU64,
     lacked_room: AtomicU64,
     open: AtomicUsize,
+    serves: AtomicBool,
 }
 
 impl Counters {
+    /// Whether clients are served by now.
+    pub fn serves(&self) -> bool {
+        self.serves.load(Ordering::Relaxed)
+    }
+
     pub fn count_restart(&self) {
         self.restarts.fetch_add(1, Ordering::Relaxed);
     }
@@ -47,6 +53,11 @@ impl Counters {
 }
 
 impl Store {
+    /// Clients are served from now on. A node that carries what is asked is told so.
+    pub fn says_that_it_serves(&self) {
+        self.counters.serves.store(true, Ordering::Relaxed);
+    }
+
     /// The figures of this moment. Nothing waits for them.
     pub fn figures(&self) -> Figures {
         self.admission.look_at_ages(self.clock.now());

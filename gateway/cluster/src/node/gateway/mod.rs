@@ -9,7 +9,9 @@
 //! more than the copy.
 
 mod hearing;
+mod port;
 mod process;
+pub mod trial;
 
 use std::collections::{BTreeMap, BTreeSet, VecDeque};
 use std::ops::RangeInclusive;
@@ -25,7 +27,7 @@ use tokio::task::JoinHandle;
 use crate::addresses::Place;
 use crate::commands::Standing;
 use crate::pipe::{FromGateway, FromNode};
-use crate::records::GatewayPhase;
+use crate::records::{Failing, GatewayPhase};
 use crate::wire::Frame;
 
 use super::connections::{next_connection, Outlet};
@@ -48,6 +50,9 @@ const STARTING: Duration = Duration::from_secs(1);
 /// this process may have stood still itself.
 const MOST_UNANSWERED: u32 = 10;
 
+/// A gateway that has served for so long has begun. One that ends before has failed.
+const SETTLED: Duration = Duration::from_secs(2);
+
 /// How a gateway is started.
 #[derive(Clone, Debug, PartialEq, Eq)]
 pub struct Settings {
@@ -66,8 +71,10 @@ pub enum Happening {
     Told { life: u64, told: FromGateway },
     /// Something that one was told was written to its socket.
     Wrote,
-    /// It is gone.
+    /// Its socket has ended.
     Ended { life: u64 },
+    /// Its process is gone, or there was none, for that reason.
+    Gone { life: Option<u64>, why: String },
     /// Something comes of another server, over the connection with that number.
     Heard { server: u32, connection: u64, heard: Heard },
 }
@@ -118,7 +125,29 @@ struct Life {
     timed: Instant,
     /// So many times were told since it said that it works, or may ask.
     unanswered: u32,
-    works: bool,
+    /// How far it says that it is in taking up the store.
+    far: u64,
+    /// It has asked for something, so it has taken up the store.
+    asked: bool,
+    /// Since when it says that it serves.
+    serves: Option<Instant>,
+}
+
+/// What a beat says of a gateway.
+#[derive(Clone, Debug, Default, PartialEq, Eq)]
+pub struct Said {
+    /// Nothing where it isn't kept for good.
+    pub phase: Option<GatewayPhase>,
+    pub failing: Option<Failing>,
+    /// While it takes up the store: a number that changes as long as it moves on.
+    pub reading: Option<u64>,
+}
+
+impl Life {
+    /// Whether it has served for a while.
+    fn has_settled(&self) -> bool {
+        self.serves.is_some_and(|since| since.elapsed() >= SETTLED)
+    }
 }
 
 /// How far the server is with a copy of its store, and for which life that is.
@@ -148,12 +177,17 @@ struct Ear {
 pub struct Beside {
     /// The node's own server.
     server: u32,
-    settings: Option<Settings>,
+    port: Option<Arc<Port>>,
     kept: Kept,
     /// What starts processes, and since when.
     keeper: Option<JoinHandle<()>>,
     started: Option<Instant>,
     life: Option<Life>,
+    /// The last life that ended, if that was its own fault and it had hardly served.
+    failed: Option<u64>,
+    failing: Option<Failing>,
+    /// Raised by all by which a gateway gets further in taking up the store, or another copy ends that it waits for.
+    moves: u64,
     copy: Copying,
     /// The server wasn't the head when the copy was begun.
     is_copy_ahead: bool,
@@ -169,17 +203,18 @@ pub struct Beside {
     paused: Option<FromNode>,
 }
 
+pub use port::Port;
 pub use process::test;
 
 impl Beside {
     /// `paused` is told to each gateway ahead of the store, if it is there.
-    pub fn new(server: u32, settings: Option<Settings>, paused: Option<FromNode>) -> Beside {
-        Beside { server, settings, paused, ..Beside::default() }
+    pub fn new(server: u32, port: Option<Arc<Port>>, paused: Option<FromNode>) -> Beside {
+        Beside { server, port, paused, ..Beside::default() }
     }
 
     /// The server is the head: a gateway is kept from now on.
     pub fn keep(&mut self, node: &Arc<Shared>) {
-        if self.kept == Kept::ForGood || self.settings.is_none() {
+        if self.kept == Kept::ForGood || self.port.is_none() {
             return;
         }
         // Where one was to be there by now and isn't, another try needn't wait for its turn.
@@ -193,7 +228,7 @@ impl Beside {
     /// The server may soon be the head, or isn't likely to be any more. Before it is the head this has no effect on others.
     pub fn foresee(&mut self, is_likely: bool, node: &Arc<Shared>, streams: &mut Streams) {
         match self.kept {
-            Kept::No if is_likely && self.settings.is_some() => {
+            Kept::No if is_likely && self.port.is_some() => {
                 tracing::info!("this server may soon be the head: a gateway is started");
                 self.start(node);
                 self.kept = Kept::Ahead;
@@ -201,7 +236,7 @@ impl Beside {
             Kept::Ahead if !is_likely => {
                 tracing::info!("a server that stands before this one is heard again: the gateway is ended");
                 self.keeper.take().iter().for_each(JoinHandle::abort);
-                (self.kept, self.started) = (Kept::No, None);
+                (self.kept, self.started, self.failing) = (Kept::No, None, None);
                 self.end(streams);
             }
             _ => {}
@@ -209,9 +244,9 @@ impl Beside {
     }
 
     fn start(&mut self, node: &Arc<Shared>) {
-        let Some(settings) = self.settings.clone() else { return };
+        let Some(port) = self.port.clone() else { return };
         self.started = Some(Instant::now());
-        let keeper = tokio::spawn(process::keep(node.clone(), settings));
+        let keeper = tokio::spawn(process::keep(node.clone(), port));
         self.keeper.replace(keeper).iter().for_each(JoinHandle::abort);
     }
 
@@ -228,10 +263,19 @@ impl Beside {
         }
     }
 
-    /// How far the gateway is.
-    pub fn phase(&self) -> Option<GatewayPhase> {
-        let works = self.life.as_ref().is_some_and(|life| life.works);
-        (self.kept == Kept::ForGood).then_some(if works { GatewayPhase::Acts } else { GatewayPhase::Begins })
+    /// What a beat says of the gateway.
+    pub fn said(&self) -> Said {
+        let is_kept = self.kept == Kept::ForGood;
+        let life = self.life.as_ref();
+        let phase =
+            if life.is_some_and(|life| life.serves.is_some()) { GatewayPhase::Acts } else { GatewayPhase::Begins };
+        let reads = life.filter(|life| is_kept && !life.asked && life.serves.is_none());
+        Said { phase: is_kept.then_some(phase), failing: self.failing.clone(), reading: reads.map(|_| self.moves) }
+    }
+
+    /// Whether there is a process of a gateway, or will be soon.
+    pub fn is_kept(&self) -> bool {
+        self.kept != Kept::No
     }
 
     pub fn happen(&mut self, happening: Happening, streams: &mut Streams) {
@@ -243,7 +287,8 @@ impl Beside {
                 self.begin(life, outlet, wanted);
             }
             Happening::Told { life, told } if self.is_current(life) => self.told(told, streams),
-            Happening::Ended { life } if self.is_current(life) => self.end(streams),
+            Happening::Ended { life } if self.is_current(life) => self.fail(streams),
+            Happening::Gone { life, why } => self.gone(life, &why),
             // Whether a chunk may be asked for is looked at behind each event.
             Happening::Told { .. } | Happening::Ended { .. } | Happening::Wrote => {}
             Happening::Heard { server, connection, heard } => self.heard(server, connection, heard),
@@ -270,38 +315,74 @@ impl Beside {
             client: None,
             timed: Instant::now(),
             unanswered: 0,
-            works: false,
+            far: 0,
+            asked: false,
+            serves: None,
         });
     }
 
-    /// What waits of this life is thrown away.
+    /// What waits of this life is thrown away, and its process ends.
     fn end(&mut self, streams: &mut Streams) {
         if let Some(client) = self.life.take().and_then(|life| life.client) {
             streams.leave(client);
         }
         self.queries.clear();
+        self.let_in(false);
     }
 
-    /// Ends the process, too.
+    /// The same by its own fault.
+    fn fail(&mut self, streams: &mut Streams) {
+        self.failed = self.life.as_ref().filter(|life| !life.has_settled()).map(|life| life.number);
+        self.end(streams);
+    }
+
+    /// A process is gone. Where its life has failed, or there was none, that is one more in a row.
+    fn gone(&mut self, life: Option<u64>, why: &str) {
+        let has_failed = life.map_or(true, |life| self.failed == Some(life));
+        if has_failed && self.kept != Kept::No {
+            let times = self.failing.as_ref().map_or(1, |failing| failing.times.saturating_add(1));
+            self.failing = Some(Failing { times, why: trial::cut(why) });
+        }
+    }
+
+    /// The node gives it up, for no fault of its own.
     fn give_up(&mut self, why: &str, streams: &mut Streams) {
         tracing::warn!("the gateway is ended: {why}");
         self.end(streams);
     }
 
+    /// The same for a fault of its own.
+    fn give_up_failed(&mut self, why: &str, streams: &mut Streams) {
+        tracing::warn!("the gateway is ended: {why}");
+        self.fail(streams);
+    }
+
+    /// Connections to the gateway's port are left to it, or ended.
+    fn let_in(&self, is_taken: bool) {
+        if let Some(port) = &self.port {
+            port.is_taken(is_taken);
+        }
+    }
+
     fn told(&mut self, told: FromGateway, streams: &mut Streams) {
         let Some(life) = &mut self.life else { return };
         match told {
-            FromGateway::Alive { .. } => {
+            FromGateway::Alive { far, serves, .. } => {
                 life.unanswered = 0;
-                life.works = life.store == Store::Open;
+                if std::mem::replace(&mut life.far, far) != far {
+                    self.moves += 1;
+                }
+                let serves = serves && life.store == Store::Open;
+                life.serves = serves.then(|| life.serves.unwrap_or_else(Instant::now));
             }
             FromGateway::Query { query } => self.query(query),
             FromGateway::Request { stream, clock, request } => {
                 let Some(client) = life.client else {
-                    return self.give_up("it asks for something before it has the store", streams);
+                    return self.give_up_failed("it asks for something before it has the store", streams);
                 };
+                life.asked = true;
                 if streams.add(client, stream, Work::Request { request, clock: Some(clock) }) > MOST_ASKED {
-                    self.give_up("it asks for more at once than it has client numbers", streams);
+                    self.give_up_failed("it asks for more at once than it has client numbers", streams);
                 }
             }
         }
@@ -323,10 +404,13 @@ impl Beside {
                 life.unanswered += 1;
             }
         }
+        if life.has_settled() {
+            self.failing = None;
+        }
         if life.unanswered >= MOST_UNANSWERED {
-            self.give_up("it doesn't say that it works", streams);
+            self.give_up_failed("it doesn't say that it works", streams);
         } else if life.client.is_some_and(|client| !streams.has(client)) {
-            self.give_up("it doesn't read what it is told", streams);
+            self.give_up_failed("it doesn't read what it is told", streams);
         }
     }
 
@@ -381,6 +465,7 @@ impl Beside {
 
     /// A chunk comes of the node's own server, of a copy of so many entries. An empty one is the end of the copy.
     pub fn saved(&mut self, count: u64, chunk: Bytes, standing: &Standing, streams: &mut Streams) {
+        self.moves += 1;
         let Copying::Asked(of) = self.copy else { return };
         let is_last = chunk.is_empty();
         self.copy = if is_last { Copying::No } else { Copying::Begun(of) };
@@ -389,7 +474,7 @@ impl Beside {
         life.ahead = ahead;
         life.store = if is_last { Store::All } else { Store::Some };
         if !life.outlet.send_bytes(FromNode::Chunk { chunk }.bytes()) {
-            return self.give_up("it isn't told the store any more", streams);
+            return self.give_up_failed("it isn't told the store any more", streams);
         }
         self.open(standing, streams);
     }
@@ -414,8 +499,9 @@ impl Beside {
         (life.store, life.client) = (Store::Open, Some(client));
         let is_there = life.outlet.send_bytes(FromNode::Stored { server: self.server }.bytes());
         streams.enter(client, life.outlet.clone());
+        self.let_in(true);
         if !is_there {
-            self.give_up("it isn't told that it may ask", streams);
+            self.give_up_failed("it isn't told that it may ask", streams);
         }
     }
 

@@ -15,9 +15,10 @@ use std::{io, thread};
 use bytes::Bytes;
 use tokio::io::{AsyncRead, AsyncWrite};
 use tokio::net::UnixStream;
+use tokio::process;
 use tokio::sync::mpsc::{unbounded_channel, UnboundedReceiver};
 use tokio::sync::oneshot;
-use tokio::time::sleep;
+use tokio::time::{sleep, timeout};
 
 use crate::child::{end_with_this_process, said};
 use crate::identity::Pems;
@@ -28,6 +29,7 @@ use crate::wire::Frame;
 
 use super::super::connections::{next_connection, other, write_some, Outlet};
 use super::super::{Event, Shared};
+use super::port::Port;
 use super::{Happening, Settings, CLIENTS};
 
 /// So many bytes may wait for a gateway. It has few open requests, and answers to these may be large.
@@ -42,16 +44,21 @@ const LONGEST_PAUSE: Duration = Duration::from_secs(5);
 /// Behind a gateway that was there for so long the next one begins at once.
 const LONG: Duration = Duration::from_secs(10);
 
+/// A trial may take so long.
+const LONGEST_TRIAL: Duration = Duration::from_secs(5);
+
 /// Keeps a gateway for good: where one ends, another one is started.
-pub async fn keep(node: Arc<Shared>, settings: Settings) {
+pub async fn keep(node: Arc<Shared>, port: Arc<Port>) {
     let mut pause = Duration::ZERO;
     loop {
         let begun = Instant::now();
-        let why = live(&node, &settings).await;
+        let (life, why) = live(&node, &port).await;
         if begun.elapsed() >= LONG {
             pause = Duration::ZERO;
         }
         tracing::warn!(pause = ?pause, "the gateway is gone, and is started again: {why}");
+        node.tell(Event::Gateway(Happening::Gone { life, why }));
+        node.gateway_ended.notify_one();
         sleep(pause).await;
         pause = next_pause(pause);
     }
@@ -61,9 +68,9 @@ fn next_pause(pause: Duration) -> Duration {
     (2 * pause).clamp(SHORTEST_PAUSE, LONGEST_PAUSE)
 }
 
-/// One process from its start to its end. Says why it ended.
-async fn live(node: &Shared, settings: &Settings) -> String {
-    let started = match command(&node.cluster, settings) {
+/// One process from its start to its end. Gives the number of its life, if it had one, and says why it ended.
+async fn live(node: &Shared, port: &Port) -> (Option<u64>, String) {
+    let started = match command(&node.cluster, port) {
         // The files are there until the process has begun, which opens them then.
         Ok((command, socket, _files)) => spawn(command, socket).await,
         Err(error) => Err(error),
@@ -71,13 +78,13 @@ async fn live(node: &Shared, settings: &Settings) -> String {
     match started {
         Ok((socket, process)) => {
             let life = next_connection();
-            tracing::info!(life, listen = %settings.place.listen, process = process.id, "a gateway begins");
+            tracing::info!(life, listen = %port.settings.place.listen, process = process.id, "a gateway begins");
             let tell = |happening| node.tell(Event::Gateway(happening));
             let why = converse(socket, life, &node.time_for_gateway(), &tell).await;
             tell(Happening::Ended { life });
-            format!("{why}; {}", process.end().await)
+            (Some(life), format!("{why}; {}", process.end().await))
         }
-        Err(error) => format!("it can't be started: {error}"),
+        Err(error) => (None, format!("it can't be started: {error}")),
     }
 }
 
@@ -99,46 +106,56 @@ impl Process {
     }
 }
 
-/// Tries whether a gateway would begin: it reads its options and files, and takes its address for a moment. An error says what
-/// it said.
-pub async fn test(cluster: &Cluster, settings: &Settings) -> anyhow::Result<()> {
-    let (mut command, _files) = program(cluster, settings)?;
-    command.arg("--only-prepare").stdin(Stdio::null());
-    let output = tokio::task::spawn_blocking(move || command.output()).await??;
-    if !output.status.success() {
-        let said = String::from_utf8_lossy(&output.stderr);
-        anyhow::bail!("a gateway wouldn't begin beside this node: {}", said.trim());
+/// Tries whether a gateway would begin: it reads its options and files. An error says what it said. `is_one_there`: another one
+/// of this node has addresses that the options name.
+pub async fn test(cluster: &Cluster, port: &Port, is_one_there: bool) -> Result<(), String> {
+    let failed = |error: io::Error| format!("it can't be started: {error}");
+    let (mut command, _files) = program(cluster, port).map_err(failed)?;
+    command.arg("--only-prepare").args(is_one_there.then_some("--beside-another"));
+    command.stdin(Stdio::null()).stdout(Stdio::null()).stderr(Stdio::piped());
+    let process = process::Command::from(command).kill_on_drop(true).spawn().map_err(failed)?;
+    // A file may be a pipe that nobody writes to.
+    let output = timeout(LONGEST_TRIAL, process.wait_with_output()).await;
+    let output = output.map_err(|_| format!("it reads its files for more than {} s", LONGEST_TRIAL.as_secs()))?;
+    let output = output.map_err(failed)?;
+    match output.status.success() {
+        true => Ok(()),
+        false if output.stderr.is_empty() => Err(said(output.status)),
+        false => Err(String::from_utf8_lossy(&output.stderr).trim().into()),
     }
-    Ok(())
 }
 
 /// The command, this end of the socket that is its standard input, and files that it is given.
-fn command(cluster: &Cluster, settings: &Settings) -> io::Result<(Command, Socket, Vec<OwnedFd>)> {
+fn command(cluster: &Cluster, port: &Port) -> io::Result<(Command, Socket, Vec<OwnedFd>)> {
     let (own, other) = Socket::pair()?;
     own.set_nonblocking(true)?;
-    let (mut command, files) = program(cluster, settings)?;
+    let (mut command, files) = program(cluster, port)?;
     command.stdin(Stdio::from(OwnedFd::from(other)));
     Ok((command, own, files))
 }
 
 /// The command without its standard input, and files that it is given.
-fn program(cluster: &Cluster, settings: &Settings) -> io::Result<(Command, Vec<OwnedFd>)> {
-    let listen = settings.place.listen;
+fn program(cluster: &Cluster, port: &Port) -> io::Result<(Command, Vec<OwnedFd>)> {
+    let Settings { place, config } = &port.settings;
+    let listen = place.listen;
     let mut command = Command::new(this_program());
     command.args(["serve", "--beside-node", "--host", &listen.ip().to_string()]);
     command.args(["--port", &listen.port().to_string()]);
-    let mut files = Vec::new();
+    let socket = port.socket()?;
+    command.arg("--listener").arg(socket.as_raw_fd().to_string());
+    let mut files = vec![socket];
     if let Some(identity) = &cluster.identity {
         command.args(["--cluster", &cluster.name]);
-        files = give_identity(&mut command, &identity.pems)?;
+        files.extend(give_identity(&mut command, &identity.pems)?);
     }
-    if let Some(config) = &settings.config {
+    if let Some(config) = config {
         command.arg("--config").arg(config);
     }
     // A node may be told by these where fronts find its cluster. This one is no front.
     command.env_remove("HOBBYCHAIR_CLUSTER").env_remove("HOBBYCHAIR_ETCD").env_remove("HOBBYCHAIR_AUTHORITY");
     command.process_group(0);
     end_with_this_process(&mut command);
+    keep_open(&mut command, &files);
     Ok((command, files))
 }
 
@@ -160,11 +177,15 @@ fn give_identity(command: &mut Command, pems: &Pems) -> io::Result<Vec<OwnedFd>>
         command.arg(option).arg(format!("/proc/self/fd/{}", file.as_raw_fd()));
         files.push(OwnedFd::from(file));
     }
+    Ok(files)
+}
+
+/// These files stay open in what is executed. They have to be open until then.
+fn keep_open(command: &mut Command, files: &[OwnedFd]) {
     let numbers: Vec<RawFd> = files.iter().map(AsRawFd::as_raw_fd).collect();
     // SAFETY: what runs between fork and exec takes no locks and no memory. Each number is that of a file which is kept open
     // until then.
-    unsafe { command.pre_exec(move || numbers.iter().try_for_each(|number| keep_open(*number))) };
-    Ok(files)
+    unsafe { command.pre_exec(move || numbers.iter().try_for_each(|number| stays_open(*number))) };
 }
 
 fn file_in_memory() -> io::Result<File> {
@@ -177,8 +198,7 @@ fn file_in_memory() -> io::Result<File> {
     }
 }
 
-/// The file stays open in what is executed.
-fn keep_open(number: RawFd) -> io::Result<()> {
+fn stays_open(number: RawFd) -> io::Result<()> {
     // SAFETY: the call touches no memory of this process.
     match unsafe { libc::fcntl(number, libc::F_SETFD, 0) } {
         0 => Ok(()),
@@ -324,7 +344,7 @@ mod tests {
         outlet.send(&Frame::Standing { server: 1, is_head: true, is_acting: true });
         outlet.send(&Frame::Refused { stream: 4, code: 20, request: None });
         assert_eq!(read(&mut frames).await.unwrap(), FromNode::Refused { stream: 4, code: 20, request: None });
-        let alive = FromGateway::Alive { time: 7 };
+        let alive = FromGateway::Alive { time: 7, far: 0, serves: false };
         frames.reader().write_all(&alive.bytes()).await.unwrap();
         while !matches!(heard.recv().await, Some(Happening::Told { life: 5, told }) if told == alive) {}
         drop(wanted);

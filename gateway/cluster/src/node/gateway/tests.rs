@@ -183,6 +183,16 @@ fn who_asks_before_it_has_the_store_is_ended() {
     assert!(far.is_ended() && next(&mut streams).is_none());
 }
 
+/// The gateway says how far it is, and whether it serves.
+fn say(beside: &mut Beside, streams: &mut Streams, far: u64, serves: bool) {
+    let life = beside.life.as_ref().map_or(0, |life| life.number);
+    beside.happen(Happening::Told { life, told: FromGateway::Alive { time: 7, far, serves } }, streams);
+}
+
+fn phase(beside: &Beside) -> Option<GatewayPhase> {
+    beside.said().phase
+}
+
 #[test]
 fn who_says_nothing_is_ended_once_it_has_the_store() {
     let mut streams = Streams::default();
@@ -195,22 +205,106 @@ fn who_says_nothing_is_ended_once_it_has_the_store() {
     };
     let room = FromNode::Room { memory: 7, is_disk_short: false };
     beside.know_room(room.clone());
-    assert_eq!(beside.phase(), Some(GatewayPhase::Begins));
+    assert_eq!(phase(&beside), Some(GatewayPhase::Begins));
     for round in 1..2 * MOST_UNANSWERED {
         tick(&mut beside, &mut streams);
         assert_eq!(far.heard(), [TIMED, room.clone()]);
         if round % (MOST_UNANSWERED - 1) == 0 {
-            beside.happen(Happening::Told { life: 1, told: FromGateway::Alive { time: 7 } }, &mut streams);
-            assert_eq!(beside.phase(), Some(GatewayPhase::Acts));
+            say(&mut beside, &mut streams, 0, round > MOST_UNANSWERED);
+            let wanted = if round > MOST_UNANSWERED { GatewayPhase::Acts } else { GatewayPhase::Begins };
+            assert_eq!(phase(&beside), Some(wanted), "it acts once it serves");
         }
     }
-    beside.happen(Happening::Told { life: 1, told: FromGateway::Alive { time: 7 } }, &mut streams);
+    say(&mut beside, &mut streams, 0, true);
     for _ in 0..MOST_UNANSWERED {
         assert!(!far.is_ended());
         tick(&mut beside, &mut streams);
     }
     assert!(far.is_ended());
-    assert_eq!(beside.phase(), Some(GatewayPhase::Begins));
+    assert_eq!(phase(&beside), Some(GatewayPhase::Begins));
+}
+
+// ---- what beats say
+
+/// The process of the life that was begun last ends.
+fn ends(beside: &mut Beside, streams: &mut Streams, life: u64) {
+    beside.happen(Happening::Ended { life }, streams);
+    beside.happen(Happening::Gone { life: Some(life), why: format!("{life} ended") }, streams);
+}
+
+fn times(beside: &Beside) -> u32 {
+    beside.said().failing.map_or(0, |failing| failing.times)
+}
+
+#[test]
+fn gateways_that_end_before_they_have_served_for_a_while_are_counted_and_others_begin_a_row_anew() {
+    let mut streams = Streams::default();
+    let (mut beside, _far) = begun(&mut streams);
+    ends(&mut beside, &mut streams, 1);
+    beside.happen(Happening::Gone { life: None, why: "no memory".into() }, &mut streams);
+    assert_eq!(beside.said().failing, Some(Failing { times: 2, why: "no memory".into() }));
+    // One that serves for a moment alone.
+    let _far = begin(&mut beside, &mut streams, 2);
+    assert!(beside.next_save(&HEAD));
+    save(&mut beside, Bytes::new(), &mut streams);
+    say(&mut beside, &mut streams, 0, true);
+    beside.tick(&TIMED, &mut streams);
+    assert_eq!((times(&beside), phase(&beside)), (2, Some(GatewayPhase::Acts)));
+    ends(&mut beside, &mut streams, 2);
+    assert_eq!(beside.said().failing, Some(Failing { times: 3, why: "2 ended".into() }));
+    let _far = begin(&mut beside, &mut streams, 3);
+    assert!(beside.next_save(&HEAD));
+    save(&mut beside, Bytes::new(), &mut streams);
+    say(&mut beside, &mut streams, 0, true);
+    beside.life.as_mut().unwrap().serves = Instant::now().checked_sub(SETTLED);
+    beside.tick(&TIMED, &mut streams);
+    assert_eq!(times(&beside), 0);
+    ends(&mut beside, &mut streams, 3);
+    assert_eq!(times(&beside), 0, "it has served");
+}
+
+#[test]
+fn gateways_that_the_node_gives_up_are_counted_where_that_is_their_fault() {
+    // The server has entries more than the copy.
+    let mut streams = Streams::default();
+    let (mut beside, mut far) = told_ahead(&mut streams);
+    beside.open(&at(6, HEAD), &mut streams);
+    assert!(far.is_ended());
+    ends(&mut beside, &mut streams, 1);
+    assert_eq!(times(&beside), 0);
+    // It asks too early.
+    let _far = begin(&mut beside, &mut streams, 2);
+    ask(&mut beside, &mut streams, 1, "a");
+    ends(&mut beside, &mut streams, 2);
+    assert_eq!(times(&beside), 1);
+}
+
+#[test]
+fn how_far_a_gateway_is_changes_with_all_that_it_does_until_it_asks() {
+    let mut streams = Streams::default();
+    let mut beside = kept();
+    assert_eq!(beside.said().reading, None, "there is none");
+    let _far = begin(&mut beside, &mut streams, 1);
+    let mut known = beside.said().reading.unwrap();
+    let mut moves = |beside: &Beside| {
+        let reading = beside.said().reading.unwrap();
+        std::mem::replace(&mut known, reading) != reading
+    };
+    assert!(!moves(&beside) && beside.next_save(&HEAD) && !moves(&beside));
+    save(&mut beside, chunk("one"), &mut streams);
+    assert!(moves(&beside));
+    for (far, is_news) in [(3, true), (3, false), (4, true)] {
+        say(&mut beside, &mut streams, far, false);
+        assert_eq!(moves(&beside), is_news);
+    }
+    // A copy of the journal goes to its end ahead of the gateway's.
+    beside.saved(5, chunk("of the journal"), &HEAD, &mut streams);
+    assert!(moves(&beside));
+    assert!(beside.next_save(&HEAD));
+    save(&mut beside, Bytes::new(), &mut streams);
+    assert!(moves(&beside) && !moves(&beside));
+    ask(&mut beside, &mut streams, 1, "a");
+    assert_eq!(beside.said().reading, None, "from now on it waits for the chain");
 }
 
 // ---- ahead of the head
@@ -236,7 +330,7 @@ fn told_ahead(streams: &mut Streams) -> (Beside, Far) {
 fn one_that_was_told_ahead_may_ask_once_the_server_is_the_head() {
     let mut streams = Streams::default();
     let (mut beside, mut far) = told_ahead(&mut streams);
-    assert!(!beside.next_save(&MIDDLE) && beside.phase().is_none());
+    assert!(!beside.next_save(&MIDDLE) && beside.said() == Said::default());
     beside.open(&at(5, MIDDLE), &mut streams);
     assert_eq!(far.heard(), []);
     beside.open(&at(5, HEAD), &mut streams);

@@ -145,7 +145,9 @@ impl Task {
         match told {
             FromNode::Time { time, since_start } => {
                 self.clock.follow(time, since_start);
-                self.out.bytes.extend(FromGateway::Alive { time }.bytes());
+                // It has taken up the store.
+                let alive = FromGateway::Alive { time, far: 0, serves: self.counters.serves() };
+                self.out.bytes.extend(alive.bytes());
                 Ok(())
             }
             FromNode::Answer { message } => self.take_answer(frames::read_answer(message)?),

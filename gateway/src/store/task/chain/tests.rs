@@ -96,7 +96,7 @@ fn chain() -> (Store, Arc<Queue>, Node) {
         node: Some(NodeStart { server: SERVER, paused: None, incoming: BytesMut::new() }),
         queues,
         clock: Arc::new(Clock::new()),
-        kept: Some(Kept { files: Vec::new(), begun: vec![3 * STEP + 70] }),
+        kept: Some(Kept { files: Vec::new(), begun: vec![3 * STEP + 70], entries: Vec::new() }),
         memory: None,
     });
     let (reading, writing) = node.into_split();
@@ -279,8 +279,11 @@ async fn the_time_is_that_of_the_chain_and_is_heard() {
     let since_start = rustix::time::clock_gettime(rustix::time::ClockId::Monotonic).tv_sec as u64 * 1000;
     let time = store.clock().now() + 3_600_000;
     node.tell(FromNode::Time { time, since_start }).await;
-    assert_eq!(node.next().await, FromGateway::Alive { time });
+    assert_eq!(node.next().await, FromGateway::Alive { time, far: 0, serves: false });
     assert!(store.clock().now() >= time);
+    store.says_that_it_serves();
+    node.tell(FromNode::Time { time, since_start }).await;
+    assert_eq!(node.next().await, FromGateway::Alive { time, far: 0, serves: true });
 }
 
 #[tokio::test]
