@@ -1,5 +1,9 @@
 //! What keeps the store: the process `cq server`, or a node. The lines of an older journal are put to `cq session`.
 
+use std::ffi::OsString;
+use std::fs::OpenOptions;
+use std::io::{self, BufRead, BufReader};
+use std::os::unix::fs::OpenOptionsExt;
 use std::os::unix::process::CommandExt;
 use std::path::{Path, PathBuf};
 use std::process::Stdio;
@@ -26,6 +30,10 @@ pub enum CqError {
     Gone(String),
     #[error("cq can't turn it into a journal of this version: {0}")]
     NotConverted(String),
+    #[error("it is missing, and none is made in its place")]
+    FileMissing,
+    #[error("it has nothing but zeros: it was emptied")]
+    FileBlank,
     #[error("the node is gone, or it has ended this gateway's life")]
     NodeGone,
     #[error("{0}")]
@@ -36,6 +44,11 @@ impl CqError {
     /// Whether another program has the file in which this one keeps what it is told.
     pub fn is_busy(&self) -> bool {
         self.has_said("JournalBusy")
+    }
+
+    /// Whether that file isn't the one that was there: another program would do no better.
+    pub fn is_of_lost_file(&self) -> bool {
+        matches!(self, CqError::FileMissing | CqError::FileBlank)
     }
 
     /// Whether that file has lines where entries are wanted.
@@ -62,8 +75,54 @@ pub struct Cq {
 #[derive(Clone, Debug)]
 pub struct KeptFile {
     pub path: PathBuf,
-    /// How large it is made, in MiB.
-    pub size: Option<u64>,
+    pub making: Making,
+}
+
+/// What a program does where its file is missing, or has nothing but zeros.
+#[derive(Clone, Copy, Debug, PartialEq, Eq)]
+pub enum Making {
+    /// It isn't started: the file is to be the one that was there.
+    Refused,
+    /// It makes a journal: in a file of so many MiB, or of as many as it says itself.
+    OfSize(Option<u64>),
+}
+
+impl KeptFile {
+    /// Refuses one that isn't there, or that is blank, where none is to be made.
+    fn test(&self) -> Result<(), CqError> {
+        match (self.making, is_blank(&self.path)) {
+            (Making::OfSize(_), _) => Ok(()),
+            (Making::Refused, Err(error)) if error.kind() == io::ErrorKind::NotFound => Err(CqError::FileMissing),
+            (Making::Refused, Ok(true)) => Err(CqError::FileBlank),
+            // What else is wrong the program says.
+            (Making::Refused, _) => Ok(()),
+        }
+    }
+
+    fn words(&self) -> Vec<OsString> {
+        let mut words = vec!["--journal".into(), self.path.clone().into()];
+        if let Making::OfSize(Some(size)) = self.making {
+            words.extend(["--journal-size".into(), size.to_string().into()]);
+        }
+        words
+    }
+}
+
+/// Whether a file has nothing but zeros. It takes time in proportion to those with which it begins.
+fn is_blank(path: &Path) -> io::Result<bool> {
+    let file = OpenOptions::new().read(true).custom_flags(libc::O_NONBLOCK).open(path)?;
+    let mut reader = BufReader::with_capacity(PIECE, file);
+    loop {
+        let piece = reader.fill_buf()?;
+        if piece.is_empty() {
+            return Ok(true);
+        }
+        if piece.iter().any(|byte| *byte != 0) {
+            return Ok(false);
+        }
+        let length = piece.len();
+        reader.consume(length);
+    }
 }
 
 const VERSION: &str = env!("CARGO_PKG_VERSION");
@@ -72,6 +131,9 @@ const LAST_MOMENTS: Duration = Duration::from_secs(1);
 
 /// No more is read of what it says of its end.
 const LONGEST_WORDS: u64 = 4096;
+
+/// A file is read in pieces of so many bytes.
+const PIECE: usize = 64 << 10;
 
 const VERSION_TIME: Duration = Duration::from_secs(10);
 
@@ -100,10 +162,8 @@ impl Cq {
         let mut command = std::process::Command::new(program);
         command.args(words).stdin(Stdio::piped()).stdout(Stdio::piped()).process_group(0);
         if let Some(file) = file {
-            command.arg("--journal").arg(&file.path).stderr(Stdio::piped());
-            if let Some(size) = file.size {
-                command.arg("--journal-size").arg(size.to_string());
-            }
+            file.test()?;
+            command.args(file.words()).stderr(Stdio::piped());
         }
         // It is started by threads that are there until the gateway ends.
         end_with_this_process(&mut command);

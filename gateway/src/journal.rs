@@ -6,7 +6,7 @@
 use std::ffi::OsString;
 use std::fs::{File, OpenOptions, Permissions};
 use std::io::{self, Read, Write};
-use std::os::unix::fs::{OpenOptionsExt, PermissionsExt};
+use std::os::unix::fs::{FileExt, OpenOptionsExt, PermissionsExt};
 use std::path::{Path, PathBuf};
 use std::thread;
 use std::time::{Duration, Instant};
@@ -14,7 +14,7 @@ use std::time::{Duration, Instant};
 use rustix::fs::{fallocate, flock, fstatfs, FallocateFlags, FlockOperation, OFlags};
 use thiserror::Error;
 
-use crate::cq::KeptFile;
+use crate::cq::{KeptFile, Making};
 use crate::queues::shards::Shards;
 
 /// Why the files of a journal can't be used.
@@ -32,8 +32,15 @@ pub enum JournalError {
     Network(String),
     #[error("{0} is missing: the journal has a file for each program, as many as --shards says")]
     Missing(String),
+    #[error("{0} is missing: the journal has a file for each program, and its book says that there are {1}")]
+    Lacks(String, u32),
     #[error("{0} is there: the journal has a file for each program, and --shards says {1}")]
     OtherShards(String, u32),
+    #[error(
+        "{0} has no requests, and had some: it was emptied, or is another file. Put the file or a copy of the journal there; \
+         to begin with nothing, remove {1}"
+    )]
+    Emptied(String, String),
 }
 
 impl From<io::Error> for JournalError {
@@ -68,7 +75,36 @@ pub struct Files {
 
 /// The journal is this gateway's for as long as this is kept.
 pub struct Lock {
-    _file: File,
+    file: File,
+}
+
+/// What stands in the lock once the file of each program has requests.
+const HAS_REQUESTS: &[u8] = b"hobbychair: each file of this journal has requests\n";
+
+impl Lock {
+    /// Notes for good that the file of each program has requests. From then on one that has none isn't the one that was there.
+    pub fn note_requests(&self) -> io::Result<()> {
+        let mut noted = vec![0; HAS_REQUESTS.len()];
+        if self.file.read_exact_at(&mut noted, 0).is_ok() && noted == HAS_REQUESTS {
+            return Ok(());
+        }
+        self.file.write_all_at(HAS_REQUESTS, 0)?;
+        self.file.sync_all()
+    }
+}
+
+/// Whether it was noted of the journal of this path that the file of each program has requests.
+pub fn has_had_requests(path: &Path) -> io::Result<bool> {
+    Ok(front_of(&lock_of(path))?.is_some_and(|front| front.starts_with(HAS_REQUESTS)))
+}
+
+/// Why a file of a journal isn't taken that has no requests, and had some.
+pub fn emptied(path: &Path, file: &Path) -> JournalError {
+    JournalError::Emptied(file.display().to_string(), lock_of(path).display().to_string())
+}
+
+fn lock_of(path: &Path) -> PathBuf {
+    with_suffix(path, "lock")
 }
 
 /// The path with something behind it.
@@ -92,15 +128,15 @@ impl Files {
         self.shards
     }
 
-    /// The file of the program at this place.
+    /// The file of the program at this place, which is there.
     pub fn of(&self, place: usize) -> KeptFile {
-        KeptFile { path: with_suffix(&self.path, &format!("cq{}", place + 1)), size: self.size }
+        KeptFile { path: with_suffix(&self.path, &format!("cq{}", place + 1)), making: Making::Refused }
     }
 
-    /// The same under the name that it has first. It is made as large as these are at least, in MiB, where nothing else is said.
+    /// The same under the name that it has first, where it may be made: as large as these are at least, in MiB, where nothing else is said.
     pub fn fresh(&self, place: usize, least: u64) -> KeptFile {
         let size = self.size.or((least > DEFAULT_SIZE).then_some(least));
-        KeptFile { path: with_suffix(&self.of(place).path, "new"), size }
+        KeptFile { path: with_suffix(&self.of(place).path, "new"), making: Making::OfSize(size) }
     }
 
     /// The file to which lines go that the journal of an earlier version is put as, before they are turned into entries.
@@ -121,17 +157,17 @@ impl Files {
     /// Keeps all other gateways from the journal.
     pub fn lock(&self) -> Result<Lock, JournalError> {
         test_place(&self.path)?;
-        let name = with_suffix(&self.path, "lock");
+        let name = lock_of(&self.path);
         let mut options = OpenOptions::new();
         // Whoever can read it could hold it, and keep the gateway from starting.
-        options.create(true).write(true).truncate(false).mode(0o600);
+        options.create(true).read(true).write(true).truncate(false).mode(0o600);
         let file = open_file(&name, &mut options)?;
         about(&name, file.set_permissions(Permissions::from_mode(0o600)))?;
         test_disk(&file, &self.path)?;
         let begun = Instant::now();
         loop {
             match flock(&file, FlockOperation::NonBlockingLockExclusive) {
-                Ok(()) => return Ok(Lock { _file: file }),
+                Ok(()) => return Ok(Lock { file }),
                 Err(rustix::io::Errno::WOULDBLOCK) if begun.elapsed() < PATIENCE => thread::sleep(PAUSE),
                 Err(rustix::io::Errno::WOULDBLOCK) => return Err(JournalError::InUse(self.path.display().to_string())),
                 Err(error) => return Err(JournalError::Io(format!("{} can't be locked: {error}", name.display()))),
@@ -157,7 +193,7 @@ impl Files {
         }
         // That of the first program was about to get its name.
         let was_cut_off = self.fresh(0, 0).path.exists();
-        if !was_cut_off && (!found.is_empty() || bars_older(&self.path)?) {
+        if !was_cut_off && (!found.is_empty() || bars_older(&self.path)? || has_had_requests(&self.path)?) {
             return Err(missing(0));
         }
         for place in found {

@@ -160,7 +160,7 @@ impl Upgrade<'_> {
             cqs: self.begin_servers(0).await?,
             queues,
             clock: self.clock.clone(),
-            kept: Some(Kept { files: self.fresh_files(0), begun: numbers }),
+            kept: Some(Kept { files: self.fresh_files(0), begun: numbers, entries: Vec::new() }),
             memory: None,
         }))
     }

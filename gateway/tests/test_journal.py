@@ -241,9 +241,7 @@ def test_files_are_their_owners_alone_and_no_link_is_followed(tmp_path):
 def test_a_pipe_in_a_files_place_is_told(tmp_path, name):
     os.mkfifo(tmp_path / name)
     ended = start(tmp_path / "journal")
-    # A pipe that nobody reads can't even be opened to write.
-    said = "No such device" if name == "journal.lock" else "it is no file"
-    assert ended.returncode == 1 and f"{tmp_path / name}: {said}" in ended.stderr
+    assert ended.returncode == 1 and f"{tmp_path / name}: it is no file" in ended.stderr
 
 
 def test_errors_name_their_file(tmp_path, journal):

@@ -35,7 +35,7 @@ pub use beside_node::{take_up as take_up_from_node, wait_for as wait_beside_node
 pub use figures::Figures;
 pub use replay::{replay_all, start_session, ReplayError, Tables};
 pub use task::{start, Ends, Kept, NodeStart, Start};
-pub use told::{start as start_told, Ready};
+pub use told::{start as start_told, Ready, ToldError};
 
 tokio::task_local! {
     /// Up to which moment who asks wants its answer, where that is known.

@@ -35,7 +35,11 @@ pub enum ToldError {
 impl ToldError {
     /// Whether the program is gone, or as good as that: another one may do better.
     pub fn is_of_program(&self) -> bool {
-        matches!(self, ToldError::Cq(_) | ToldError::BadFrame(_))
+        match self {
+            ToldError::Cq(error) => !error.is_of_lost_file(),
+            ToldError::BadFrame(_) => true,
+            ToldError::Image { .. } | ToldError::NoMemory(_) => false,
+        }
     }
 
     /// Whether the file has the journal of a session.

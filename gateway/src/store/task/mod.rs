@@ -13,6 +13,7 @@ mod space;
 mod starting;
 
 use std::collections::{HashMap, VecDeque};
+use std::path::PathBuf;
 use std::sync::Arc;
 use std::time::Duration;
 
@@ -28,7 +29,7 @@ use super::figures::Counters;
 use super::told::{self, ToldError};
 use super::{AnswerSender, Answers, Hold, Holds, Job, Operation, Store};
 use crate::clock::{Clock, Moment};
-use crate::cq::{Cq, CqError, KeptFile};
+use crate::cq::{Cq, CqError, KeptFile, Making};
 use crate::errors::SqsError;
 use crate::frames::BadFrame;
 use crate::queues::shards::{Shard, Shards};
@@ -62,6 +63,17 @@ pub enum Ended {
     Unread(u32),
     #[error(transparent)]
     Told(#[from] ToldError),
+    /// A program isn't started again on its file.
+    #[error("{}: {why}", .file.display())]
+    NotStartedAgain { file: PathBuf, why: ToldError },
+    #[error("{} is gone: it was removed or renamed while the gateway ran", .0.display())]
+    FileGone(PathBuf),
+    /// What was acknowledged isn't there.
+    #[error(
+        "{} has {found} requests, and {heard} were kept there: while the gateway ran, another file took its place, or it was changed",
+        .file.display()
+    )]
+    FileChanged { file: PathBuf, found: u64, heard: u64 },
     /// All copies of the store are gone.
     #[error("nobody asks any more")]
     NobodyAsks,
@@ -159,6 +171,8 @@ pub struct Kept {
     pub files: Vec<KeptFile>,
     /// The largest number of a request that each was given, by its place.
     pub begun: Vec<u64>,
+    /// How many entries the store of each has, by its place; none where that isn't known.
+    pub entries: Vec<u64>,
 }
 
 /// Why tasks have ended, one after the other. It comes to its end once all of them and their programs have.
@@ -178,6 +192,7 @@ pub fn start(mut start: Start) -> (Store, Ends) {
         let largest = begun.unwrap_or_else(|| start.clock.now() << 20);
         let last_number = start.node.as_ref().map_or(largest, |node| chain::number_before(largest, node.server));
         let file = start.kept.as_ref().and_then(|kept| kept.files.get(shard.place()).cloned());
+        let entries = start.kept.as_ref().and_then(|kept| kept.entries.get(shard.place()).copied());
         let length = file.as_ref().and_then(|file| std::fs::metadata(&file.path).ok()).map(|found| found.len());
         let mut task = Task {
             shard,
@@ -187,7 +202,7 @@ pub fn start(mut start: Start) -> (Store, Ends) {
             queues: start.queues.clone(),
             clock: start.clock.clone(),
             chain: start.node.is_some().then(Chain::default),
-            server: Server::default(),
+            server: Server::of(entries.unwrap_or(0)),
             file,
             space: Space::new(length),
             admission: admission.clone(),
@@ -350,14 +365,21 @@ impl Task {
         let (mut reader, mut numbers) = (StoreReader::default(), HashMap::new());
         let mut take = |chunk: &[u8]| {
             let read = reader.feed(chunk, |part| {
-                if let Part::Client { client, number } = part {
+                if let Part::Client { client, number, .. } = part {
                     numbers.insert(client, number);
                 }
             });
             Ok(read?)
         };
-        let ready = told::start(&self.program, file, self.patience, Some(&mut take)).await?;
-        (self.cq, self.server) = (ready.cq, Server::default());
+        // Whatever stands there now, no journal is made.
+        let file = KeptFile { making: Making::Refused, ..file.clone() };
+        let started = told::start(&self.program, &file, self.patience, Some(&mut take)).await;
+        let ready = started.map_err(|why| why_not_started(file.path.clone(), why))?;
+        let heard = self.server.entries();
+        if ready.entries < heard {
+            return Err(Ended::FileChanged { file: file.path, found: ready.entries, heard });
+        }
+        (self.cq, self.server) = (ready.cq, Server::of(ready.entries));
         self.incoming.clear();
         self.out.clear();
         self.waits_for_answer = false;
@@ -437,4 +459,14 @@ enum Again {
 /// Starts wait longer each time, up to five seconds. The first one doesn't wait.
 fn pause(ends: u32) -> Duration {
     Duration::from_millis((10 * u64::from(ends - 1).pow(2)).min(5_000))
+}
+
+/// Why a program isn't started again on its file.
+fn why_not_started(file: PathBuf, why: ToldError) -> Ended {
+    match why {
+        ToldError::Cq(CqError::FileMissing) => Ended::FileGone(file),
+        ToldError::Cq(_) | ToldError::BadFrame(_) => Ended::NotStartedAgain { file, why },
+        // These have the file's name.
+        ToldError::Image { .. } | ToldError::NoMemory(_) => why.into(),
+    }
 }

@@ -40,6 +40,8 @@ pub(super) struct Server {
     tells_of_waiting: bool,
     /// Answers wait for memory, and are asked for at this moment.
     more: Option<Instant>,
+    /// How many entries its store has, as far as it has told.
+    entries: u64,
 }
 
 /// A command that was given.
@@ -59,11 +61,21 @@ struct Stop {
 
 impl Default for Server {
     fn default() -> Server {
-        Server { stream: 1, given: VecDeque::new(), stopped: None, tells_of_waiting: false, more: None }
+        let given = VecDeque::new();
+        Server { stream: 1, given, stopped: None, tells_of_waiting: false, more: None, entries: 0 }
     }
 }
 
 impl Server {
+    /// One whose store has so many entries.
+    pub(super) fn of(entries: u64) -> Server {
+        Server { entries, ..Server::default() }
+    }
+
+    pub(super) fn entries(&self) -> u64 {
+        self.entries
+    }
+
     /// Appends a request, which `write` writes, unless all waits for memory: then it is given when that is over.
     pub(super) fn request(&mut self, out: &mut Vec<u8>, clock: Moment, number: u64, write: impl FnOnce(&mut Vec<u8>)) {
         if self.gives(number) {
@@ -127,7 +139,10 @@ impl Task {
                 self.server.tells_of_waiting = true;
                 Ok(())
             }
-            Response::Done(_) => self.command_done(),
+            Response::Done(standing) => {
+                self.server.entries = standing.count;
+                self.command_done()
+            }
             Response::Refused(code) | Response::Unread(code) => self.command_refused(code),
             _ => Err(BadFrame(Malformed("it means nothing to this gateway")).into()),
         }

@@ -143,7 +143,7 @@ fn store_of(names: &[&str]) -> (Store, Vec<Arc<Queue>>, Program, Ends) {
         node: None,
         queues: tables,
         clock: Arc::new(Clock::new()),
-        kept: Some(Kept { files: Vec::new(), begun: vec![LARGEST] }),
+        kept: Some(Kept { files: Vec::new(), begun: vec![LARGEST], entries: Vec::new() }),
         memory: None,
     });
     let (reading, writing) = program.into_split();

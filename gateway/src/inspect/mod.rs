@@ -1,5 +1,7 @@
 //! Commands that look at a journal. The programs that keep it do so, by words of their own, also while a gateway runs.
 
+mod book;
+
 use std::fmt;
 use std::io::Write;
 use std::path::{Path, PathBuf};
@@ -8,7 +10,7 @@ use std::process::{Command, Stdio};
 use anyhow::{bail, Context, Result};
 use serde::Deserialize;
 
-use crate::journal::{files_of, keep_older_out, with_suffix};
+use crate::journal::{emptied, files_of, has_had_requests, keep_older_out, with_suffix, JournalError};
 
 /// What `cq verify` says of a file.
 #[derive(Debug, Deserialize)]
@@ -33,6 +35,13 @@ enum Found {
 #[derive(Debug, Deserialize)]
 struct Base {
     lines: u64,
+}
+
+impl Found {
+    /// Whether nothing was ever asked.
+    fn is_empty(&self) -> bool {
+        matches!(self, Found::Entries { entries: 0, .. })
+    }
 }
 
 impl fmt::Display for Found {
@@ -76,14 +85,35 @@ fn ask(program: &str, word: &str, files: &[&Path], output: Stdio) -> Result<Vec<
     Ok(ended.stdout)
 }
 
-/// Says what a journal holds. Damage is an error that says where it is.
+/// Says what a journal holds. An error says where it is damaged, which file lacks, or which one was emptied.
 pub fn verify(program: &str, path: &Path, out: &mut impl Write) -> Result<()> {
-    for file in files_there(path)? {
-        let said = ask(program, "verify", &[&file], Stdio::piped())?;
+    verify_copy(program, path, path, out)
+}
+
+/// Says what a copy of a journal holds.
+fn verify_copy(program: &str, path: &Path, copy: &Path, out: &mut impl Write) -> Result<()> {
+    let (files, has_had_requests) = (files_there(copy)?, has_had_requests(path)?);
+    for file in &files {
+        let said = ask(program, "verify", &[file], Stdio::piped())?;
         let found: Found = serde_json::from_slice(&said).context("cq said what can't be read")?;
         writeln!(out, "{}: {found}", file.display())?;
+        if has_had_requests && found.is_empty() {
+            return Err(emptied(path, file).into());
+        }
     }
+    test_count(program, copy, &files)?;
     Ok(writeln!(out, "undamaged")?)
+}
+
+/// Refuses the files of a journal of which more programs have one, as a book says.
+fn test_count(program: &str, path: &Path, files: &[PathBuf]) -> Result<()> {
+    let mut told = files.iter().filter_map(|file| book::program_of(program, file).transpose());
+    let Some(told) = told.next().transpose()? else { return Ok(()) };
+    let mut lacks = (1..=told.count).skip(files.len()).map(|number| with_suffix(path, &format!("cq{number}")));
+    match lacks.next() {
+        Some(file) => Err(JournalError::Lacks(file.display().to_string(), told.count).into()),
+        None => Ok(()),
+    }
 }
 
 /// Writes the stores of a journal, as chunks, file by file. Where a file has lines, they come behind the store that stands for earlier
@@ -102,17 +132,18 @@ pub fn back_up(program: &str, path: &Path, copy: &Path, out: &mut impl Write) ->
     if let Some(file) = files_of(copy)?.into_iter().chain([with_suffix(copy, "1")]).find(|file| file.exists()) {
         bail!("{} is there: a copy needs a name that nothing has", file.display());
     }
+    test_count(program, path, &files)?;
     let copies: Vec<_> = (1..=files.len()).map(|number| with_suffix(copy, &format!("cq{number}"))).collect();
     let copied = files
         .iter()
         .zip(&copies)
         .rev()
         .try_for_each(|(file, copy)| ask(program, "copy", &[file, copy], Stdio::piped()).map(drop));
-    if copied.is_err() {
+    let verified = copied.and_then(|()| verify_copy(program, path, copy, out));
+    if verified.is_err() {
         // Of a copy that isn't whole nothing stays.
         copies.iter().for_each(|copy| drop(std::fs::remove_file(copy)));
     }
-    copied?;
-    keep_older_out(copy)?;
-    verify(program, copy, out)
+    verified?;
+    Ok(keep_older_out(copy)?)
 }
