@@ -66,6 +66,9 @@ pub enum SqsError {
     InternalFailure(String),
     #[error("{0}")]
     ServiceUnavailable(String),
+    /// A front hasn't the room that the answer to a receive may take, so nothing was received. It is told how many bytes that are.
+    #[error("The answer may have {0} bytes, and the front has no room for so many.")]
+    NeedsRoom(usize),
     #[error("Request is missing Authentication Token")]
     MissingAuthenticationToken,
     #[error("{0}")]
@@ -191,7 +194,9 @@ impl SqsError {
             SqsError::RequestTimeout => ("com.amazon.coral.service#RequestTimeoutException", "RequestTimeout", 408),
             SqsError::OverLimit(_) => ("com.amazonaws.sqs#OverLimit", "OverLimit", 403),
             SqsError::InternalFailure(_) => ("com.amazonaws.sqs#InternalFailure", "InternalFailure", 500),
-            SqsError::ServiceUnavailable(_) => ("com.amazonaws.sqs#ServiceUnavailable", "ServiceUnavailable", 503),
+            SqsError::ServiceUnavailable(_) | SqsError::NeedsRoom(_) => {
+                ("com.amazonaws.sqs#ServiceUnavailable", "ServiceUnavailable", 503)
+            }
             SqsError::MissingAuthenticationToken => {
                 ("com.amazon.coral.service#MissingAuthenticationTokenException", "MissingAuthenticationToken", 403)
             }

@@ -17,16 +17,38 @@ use crate::store::Store;
 
 type PollResult = Result<Vec<Handed>, SqsError>;
 
+/// For how many bytes of an answer there is room where it goes; as many as can be where nothing is said of that.
+#[derive(Clone, Copy)]
+pub struct Room(pub Option<usize>);
+
+impl Room {
+    /// Refuses a receive of so many messages before it is handed any, where its answer may not find room.
+    pub fn test(self, queue: &Queue, size: u8) -> Result<(), SqsError> {
+        let Some(room) = self.0 else { return Ok(()) };
+        let needed = queue.state().most_answered(size);
+        (needed <= room).then_some(()).ok_or(SqsError::NeedsRoom(needed))
+    }
+}
+
 /// A receive that waits.
 struct Poll {
     number: u64,
     ask: Ask,
+    room: Room,
     presence: Presence,
     deadline: Instant,
     done: oneshot::Sender<PollResult>,
 }
 
 impl Poll {
+    /// Refuses it where its answer may not find room.
+    fn test_room(&self, queue: &Queue) -> Result<(), SqsError> {
+        match &self.ask {
+            Ask::Receive { size, .. } => self.room.test(queue, *size),
+            _ => Ok(()),
+        }
+    }
+
     /// Nobody is there any more who could be handed anything.
     fn is_gone(&self) -> bool {
         self.done.is_closed() || self.presence.is_gone()
@@ -49,6 +71,7 @@ struct WaitingPolls {
 pub struct Waiter {
     pub presence: Presence,
     pub time: Duration,
+    pub room: Room,
     /// The end of the gateway is the end of the wait.
     pub ending: Ending,
 }
@@ -108,7 +131,7 @@ impl Polls {
 /// `seen` is how many openings the receive had seen that came back empty. A queue that is removed meanwhile is
 /// `QueueDoesNotExist`.
 pub async fn wait(store: &Store, queue: &Arc<Queue>, ask: Ask, waiter: Waiter, seen: u64) -> PollResult {
-    let Waiter { presence, time, ending } = waiter;
+    let Waiter { presence, time, room, ending } = waiter;
     if ending.has_come() {
         return Ok(Vec::new());
     }
@@ -118,7 +141,7 @@ pub async fn wait(store: &Store, queue: &Arc<Queue>, ask: Ask, waiter: Waiter, s
         let mut waiting = queue.polls.waiting();
         waiting.last_number += 1;
         let number = waiting.last_number;
-        waiting.polls.push_back(Poll { number, ask, presence, deadline, done });
+        waiting.polls.push_back(Poll { number, ask, room, presence, deadline, done });
         if !waiting.is_served {
             waiting.is_served = true;
             tokio::spawn(serve(store.clone(), queue.clone(), ending));
@@ -181,9 +204,21 @@ async fn wait_for_opening(store: &Store, queue: &Queue) {
     }
 }
 
+/// Those polls whose answers find room. The others are refused, and have been handed nothing.
+fn with_room(queue: &Queue, polls: Vec<Poll>) -> Vec<Poll> {
+    let mut fitting = Vec::with_capacity(polls.len());
+    for poll in polls {
+        match poll.test_room(queue) {
+            Ok(()) => fitting.push(poll),
+            Err(error) => drop(poll.done.send(Err(error))),
+        }
+    }
+    fitting
+}
+
 /// Tries the first polls, and tells whether all of them were handed something, be it for the gateway to see to.
 async fn try_some(store: &Store, queue: &Arc<Queue>, count: u64) -> bool {
-    let polls = queue.polls.take(count);
+    let polls = with_room(queue, queue.polls.take(count));
     if polls.is_empty() {
         return false;
     }

@@ -219,7 +219,8 @@ mod tests {
     }
 
     fn result(is_worth_keeping: bool) -> CallResult {
-        let reply = Reply { status: 200, content_type: "", query_error: None, request_id: "r".into(), body: vec![1] };
+        let (query_error, needs_room, body) = (None, None, vec![1]);
+        let reply = Reply { status: 200, content_type: "", query_error, request_id: "r".into(), needs_room, body };
         CallResult { reply, handed: None, is_worth_keeping }
     }
 

@@ -15,6 +15,7 @@ use std::hash::{Hash, Hasher};
 use std::sync::Arc;
 
 use tokio::sync::{Mutex, Semaphore};
+use uuid::Uuid;
 
 use crate::access::Identity;
 use crate::budget::Share;
@@ -43,6 +44,8 @@ pub struct Caller {
     pub call: Option<[u8; 32]>,
     /// A front has asked this before, and got no answer: what is done already isn't an error.
     pub asked_before: bool,
+    /// For how many bytes of an answer the front has room by which it came, if it came by one that says so.
+    pub room: Option<usize>,
     /// What it counts for the budget of requests.
     pub share: Arc<Share>,
 }
@@ -113,6 +116,8 @@ pub struct Actions {
     metrics: Arc<Metrics>,
     ending: Ending,
     rights: Rights,
+    /// Nobody else knows it, and no start goes on with it.
+    secret: Uuid,
 }
 
 impl Actions {
@@ -127,7 +132,8 @@ impl Actions {
         rights: Rights,
     ) -> Actions {
         let locks = (0..LOCKS).map(|_| Mutex::new(())).collect();
-        Actions { store, owner, locks, polls: Semaphore::new(polls as usize), pauses, metrics, ending, rights }
+        let (polls, secret) = (Semaphore::new(polls as usize), Uuid::new_v4());
+        Actions { store, owner, locks, polls, pauses, metrics, ending, rights, secret }
     }
 
     pub fn store(&self) -> &Store {

@@ -11,7 +11,7 @@ use crate::errors::SqsError;
 use crate::handles::Handle;
 use crate::messages::{read_envelope, MessageAttributes, Metadata};
 use crate::parts;
-use crate::polling::{self, Waiter};
+use crate::polling::{self, Room, Waiter};
 use crate::queues::ask::{Ask, Changer, Handed, Reach};
 use crate::queues::Queue;
 use crate::texts::{QueueKind, QueueName};
@@ -36,6 +36,8 @@ impl Actions {
         };
         let visibility = receive.visibility.unwrap_or(own_visibility);
         let wait = u64::from(receive.wait.unwrap_or(own_wait));
+        let room = Room(caller.room);
+        room.test(&queue, receive.size)?;
         let request_bytes = receive.shown.bytes_kept();
         if !caller.share.try_set(request_bytes + queue.state().most_handed(receive.size)) {
             return Err(SqsError::ServiceUnavailable("Too many requests are being served.".into()));
@@ -56,7 +58,7 @@ impl Actions {
             let _counted = self.metrics.poll();
             caller.share.set(request_bytes);
             let (presence, time) = (caller.presence.clone(), Duration::from_secs(wait));
-            let waiter = Waiter { presence, time, ending: self.ending.clone() };
+            let waiter = Waiter { presence, time, room, ending: self.ending.clone() };
             // Receives that wait for nothing don't pay for its size.
             handed = Box::pin(polling::wait(&self.store, &queue, ask, waiter, openings)).await?;
         }

@@ -14,13 +14,14 @@ use hyper::body::HttpBody;
 use hyper::{Body, Client, Request, Response, StatusCode, Uri};
 use thiserror::Error;
 use tokio::sync::Mutex;
-use tokio::time::{sleep_until, timeout, Instant};
+use tokio::time::{sleep, sleep_until, timeout, Instant};
 
 use crate::budget::Share;
 use crate::calls::LONGEST_BODY;
 use crate::errors::SqsError;
 
-use super::headers::{as_answered, time_of, Asked, Try};
+use super::contact::Contact;
+use super::headers::{as_answered, room_needed, time_of, Asked, Try};
 use super::operators::Figures;
 use super::streams::Streams;
 use super::times::{milliseconds, Times};
@@ -34,6 +35,12 @@ const LONGEST_TRY: Duration = Duration::from_secs(25);
 /// Between two tries at one gateway.
 const PAUSE: Duration = Duration::from_millis(50);
 
+/// So often the gateway that acts is looked at, whether anybody asks or not.
+const PING: Duration = Duration::from_millis(300);
+
+/// A gateway that was heard within this time is reached.
+const LATELY: Duration = Duration::from_secs(1);
+
 /// A connection to a gateway comes about in this time.
 const CONNECTING: Duration = Duration::from_secs(1);
 
@@ -45,6 +52,9 @@ const IDLE: Duration = Duration::from_secs(30);
 
 /// No answer is longer: ten messages in JSON have less.
 pub const LONGEST_ANSWER: usize = 64 << 20;
+
+/// A receive is passed on with room for so many bytes of its answer at first.
+const FIRST_ROOM: usize = 16 << 10;
 
 /// Why a try came to nothing.
 #[derive(Debug, Error)]
@@ -76,6 +86,49 @@ pub enum Failed {
 struct Wanted {
     until: Instant,
     is_again: bool,
+    /// For how many bytes of a receive's answer room is kept.
+    room: Option<usize>,
+}
+
+/// Room for the answer to a request, beside its own bytes. A receive has it before it is passed on: what it was handed is hidden from
+/// all others, so its answer isn't refused. Others are refused where it lacks.
+struct AnswerRoom<'s> {
+    share: &'s Share,
+    /// The bytes of the request.
+    asked: usize,
+    /// What is kept for a receive's answer.
+    kept: Option<usize>,
+}
+
+impl AnswerRoom<'_> {
+    /// Keeps room for so many bytes of a receive's answer.
+    fn keep(&mut self, bytes: usize) -> Result<(), SqsError> {
+        if !self.share.try_set(self.asked.saturating_add(bytes)) {
+            return Err(SqsError::ServiceUnavailable("Too many requests are being served.".into()));
+        }
+        self.kept = Some(bytes);
+        Ok(())
+    }
+
+    /// Whether there is room for so many bytes of the answer. Those of a receive that go beyond what is kept count all the same:
+    /// escapes have made them more than was reckoned with.
+    fn has(&self, bytes: usize) -> bool {
+        match self.kept {
+            Some(kept) if bytes <= kept => true,
+            Some(_) => {
+                self.share.set(self.asked + bytes);
+                true
+            }
+            None => self.share.try_set(self.asked + bytes),
+        }
+    }
+
+    /// The answer is there.
+    fn is_answered(&self, bytes: usize) {
+        if self.kept.is_some() {
+            self.share.set(self.asked + bytes);
+        }
+    }
 }
 
 /// Passes requests on to whichever gateway acts.
@@ -85,13 +138,19 @@ pub struct Passing {
     client: Client<Connector, Body>,
     times: Arc<Times>,
     figures: Arc<Figures>,
+    contact: Arc<Contact>,
     /// Held by the one who asks for the time.
     asking: Mutex<()>,
 }
 
 impl Passing {
     /// Where there are certificates, a gateway is asked only if it shows the one that its node has registered.
-    pub fn new(follower: Follower, identity: Option<Arc<Identity>>, figures: Arc<Figures>) -> Passing {
+    pub fn new(
+        follower: Follower,
+        identity: Option<Arc<Identity>>,
+        figures: Arc<Figures>,
+        contact: Arc<Contact>,
+    ) -> Passing {
         let known = follower.clone();
         let connector = Connector::new(identity, Role::Node, CONNECTING).to_registered(move |uri| {
             known.acting().filter(|acting| is_at(uri, acting)).map(|acting| acting.certificate)
@@ -100,25 +159,91 @@ impl Passing {
         let streams = Streams::new(connector.clone(), times.clone());
         // What a client doesn't say of the host, nobody says in its place.
         let client = Client::builder().set_host(false).pool_idle_timeout(IDLE).build(connector);
-        Passing { follower, streams, client, times, figures, asking: Mutex::default() }
+        Passing { follower, streams, client, times, figures, contact, asking: Mutex::default() }
+    }
+
+    /// Keeps a connection of calls to the gateway that acts, for good, so that it is known whether that answers where nobody asks
+    /// for anything.
+    pub async fn keep_contact(self: Arc<Passing>) {
+        loop {
+            if let Some(acting) = self.follower.acting() {
+                let heard = tokio::select! {
+                    heard = self.ping(acting) => heard,
+                    () = self.follower.leaves(Some(acting)) => Err(Failed::Changed),
+                };
+                match heard {
+                    Ok(heard) => self.goes_well(acting, heard),
+                    Err(why) => self.fails(&why),
+                }
+            }
+            sleep(PING).await;
+        }
+    }
+
+    /// When that gateway was heard last. One without calls is asked for the time.
+    async fn ping(&self, acting: Acting) -> Result<Instant, Failed> {
+        if let Some(stream) = self.streams.to(acting).await? {
+            return Ok(stream.heard());
+        }
+        let request = Asked::of_time().at(acting.address, None).ok_or(Failed::Unwritable)?;
+        timeout(TELLING, self.exchange(acting, request, |_| true)).await.map_err(|_| Failed::Silent)??;
+        Ok(Instant::now())
+    }
+
+    fn goes_well(&self, acting: Acting, heard: Instant) {
+        self.contact.goes_well(heard);
+        if heard.elapsed() < LATELY {
+            self.follower.hear(acting.server);
+        }
+    }
+
+    /// Notes a try that came to nothing, where that is for the gateway or the way to it.
+    fn fails(&self, why: &Failed) {
+        match why {
+            Failed::Changed | Failed::NoRoom | Failed::TooLong | Failed::Unwritable => {}
+            why => self.contact.fails(Instant::now(), why),
+        }
     }
 
     /// The answer of a gateway that acts, to a request that came at that moment.
-    /// Its bytes count by this share, beside those of the request.
-    pub async fn pass(&self, asked: &Asked, arrived: Instant, share: &Share) -> Result<Response<Bytes>, SqsError> {
+    /// Its bytes count by this share, beside those of the request. `receives`: it asks for messages.
+    pub async fn pass(
+        &self,
+        asked: &Asked,
+        receives: bool,
+        arrived: Instant,
+        share: &Share,
+    ) -> Result<Response<Bytes>, SqsError> {
         let last = arrived + ASKING;
-        let wanted = last + LONGEST_TRY;
+        let until = last + LONGEST_TRY;
         let mut is_again = false;
+        let mut room = AnswerRoom { share, asked: asked.bytes(), kept: None };
+        if receives {
+            room.keep(FIRST_ROOM)?;
+        }
         loop {
             let acting = self.follower.acting();
             if let Some(acting) = acting {
-                let tried = self.try_at(acting, asked, share, Wanted { until: wanted, is_again }).await;
+                let tried = self.try_at(acting, asked, &room, Wanted { until, is_again, room: room.kept }).await;
                 match tried {
-                    Ok(response) => return Ok(as_answered(response, asked.is_head())),
+                    Ok(response) => {
+                        self.goes_well(acting, Instant::now());
+                        let is_more = |needed: &usize| room.kept.is_some_and(|kept| *needed > kept);
+                        if let Some(needed) = room_needed(&response).filter(is_more) {
+                            room.keep(needed)?;
+                            continue;
+                        }
+                        room.is_answered(response.body().len());
+                        self.follower.may_answer().await;
+                        return Ok(as_answered(response, asked.is_head()));
+                    }
                     Err(Failed::NoRoom) => {
                         return Err(SqsError::ServiceUnavailable("Too many requests are being served.".into()))
                     }
-                    Err(why) => tracing::debug!(server = acting.server, "a request is to be asked again: {why}"),
+                    Err(why) => {
+                        self.fails(&why);
+                        tracing::debug!(server = acting.server, "a request is to be asked again: {why}");
+                    }
                 }
                 is_again = true;
                 self.figures.is_asked_again();
@@ -140,12 +265,12 @@ impl Passing {
         &self,
         acting: Acting,
         asked: &Asked,
-        share: &Share,
+        room: &AnswerRoom<'_>,
         wanted: Wanted,
     ) -> Result<Response<Bytes>, Failed> {
         tokio::select! {
             biased;
-            answered = self.ask(acting, asked, share, wanted) => answered,
+            answered = self.ask(acting, asked, room, wanted) => answered,
             () = self.follower.leaves(Some(acting)) => Err(Failed::Changed),
         }
     }
@@ -154,14 +279,14 @@ impl Passing {
         &self,
         acting: Acting,
         asked: &Asked,
-        share: &Share,
-        Wanted { until, is_again }: Wanted,
+        room: &AnswerRoom<'_>,
+        Wanted { until, is_again, room: kept }: Wanted,
     ) -> Result<Response<Bytes>, Failed> {
         let stream = if asked.bytes() <= LONGEST_BODY { self.streams.to(acting).await? } else { None };
         let until = self.until(acting, until).await?;
-        let tried = Try { until, is_again };
+        let tried = Try { until, is_again, room: kept };
         let said = tried.said();
-        let has_room = |bytes| share.try_set(asked.bytes() + bytes);
+        let has_room = |bytes| room.has(bytes);
         let answered = async {
             match stream {
                 Some(stream) => self.learn_time(acting, stream.ask(asked.passed_on(&said), has_room).await?),

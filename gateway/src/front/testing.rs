@@ -9,6 +9,7 @@ use hyper::http::request::Parts;
 
 use crate::access::Keys;
 use crate::http::{incoming, protocol_of, signable, Unread};
+use crate::wire::Action;
 
 /// Tests requests before they are passed on.
 #[derive(Clone)]
@@ -33,14 +34,13 @@ impl Testing {
         self.keys.as_deref().map(Keys::read_again)
     }
 
-    /// Refuses a request for nothing that is there, one that isn't signed as it has to be, and one of another form or beyond a
+    /// The action that is asked for. Refuses a request for nothing that is there, one that isn't signed as it has to be, and one of another form or beyond a
     /// bound of its action. What its key may do is the gateway's matter. Takes time in proportion to its bytes.
-    pub fn test(&self, head: &Parts, body: &[u8]) -> Result<(), Unread> {
+    pub fn test(&self, head: &Parts, body: &[u8]) -> Result<Action, Unread> {
         let incoming = incoming(head, body)?;
         if let Some(keys) = &self.keys {
             keys.verify(&signable(head, body), incoming.service().name(), SystemTime::now())?;
         }
-        protocol_of(&head.headers).read(&incoming)?;
-        Ok(())
+        Ok(protocol_of(&head.headers).read(&incoming)?.action())
     }
 }

@@ -38,7 +38,7 @@ use crate::wire::{self, Protocol, Reply};
 
 pub use address::{is_of_this_machine, Addresses};
 pub use answers::to_be_written;
-pub use connections::{listen, Door};
+pub use connections::{listen, shared, test_free, Door};
 pub use places::Places;
 pub use reading::{incoming, signable, Unread};
 pub use visitor::Hosts;
@@ -52,6 +52,8 @@ static REQUEST_ID: HeaderName = HeaderName::from_static("x-amzn-requestid");
 /// Fronts of a chain say by these until when they want an answer, in milliseconds of the chain's time, and that they asked before.
 static UNTIL: HeaderName = HeaderName::from_static("x-hobbychair-until");
 static AGAIN: HeaderName = HeaderName::from_static("x-hobbychair-again");
+/// For how many bytes of an answer a front has room; in an answer, how many it needs room for before anything is received.
+static ROOM: HeaderName = HeaderName::from_static("x-hobbychair-room");
 /// The chain's time, in milliseconds: fronts take it out of answers.
 static TIME: HeaderName = HeaderName::from_static("x-hobbychair-time");
 static QUERY_ERROR: HeaderName = HeaderName::from_static("x-amzn-query-error");
@@ -108,6 +110,8 @@ struct Call {
     until: Option<Moment>,
     /// A front has asked it before.
     asked_before: bool,
+    /// For how many bytes of an answer a front has room.
+    room: Option<usize>,
 }
 
 /// A call of which there may be repeats, and whether it says that it is one.
@@ -251,6 +255,7 @@ impl Connection {
         let is_of_chain = self.is_of_chain();
         let until = is_of_chain.then(|| text_of(&head.headers, &UNTIL)?.parse().ok()).flatten();
         let asked_before = is_of_chain && head.headers.contains_key(&AGAIN);
+        let room = is_of_chain.then(|| text_of(&head.headers, &ROOM)?.parse().ok()).flatten();
         let digest = None;
         let mut call = Call {
             connection: self,
@@ -263,6 +268,7 @@ impl Connection {
             digest,
             until,
             asked_before,
+            room,
         };
         if call.request.is_deduplicated_by_call() {
             call.digest = call.key(head, body).map(|key| key.0);
@@ -371,10 +377,10 @@ impl Call {
     }
 
     async fn perform(self: Box<Call>, presence: Presence) -> CallResult {
-        let Call { connection, protocol, action, request, request_id, identity, base_url, digest, until, asked_before } =
-            *self;
+        let (asked_before, room) = (self.asked_before, self.room);
+        let Call { connection, protocol, action, request, request_id, identity, base_url, digest, until, .. } = *self;
         let share = connection.share.clone();
-        let caller = Caller { base_url, presence, identity, call: digest, asked_before, share };
+        let caller = Caller { base_url, presence, identity, call: digest, asked_before, room, share };
         match wanted_until(until, connection.service.actions.perform(request, &caller)).await {
             Ok(performed) => {
                 let is_worth_keeping = !performed.response.is_empty_receive();
@@ -422,6 +428,9 @@ fn response(reply: Reply) -> Response<Bytes> {
     headers.insert(CONTENT_TYPE, HeaderValue::from_static(reply.content_type));
     if let Ok(request_id) = HeaderValue::try_from(reply.request_id) {
         headers.insert(&REQUEST_ID, request_id);
+    }
+    if let Some(bytes) = reply.needs_room {
+        headers.insert(&ROOM, HeaderValue::from(bytes));
     }
     if let Some(Ok(error)) = reply.query_error.map(HeaderValue::try_from) {
         headers.insert(&QUERY_ERROR, error);

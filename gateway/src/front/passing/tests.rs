@@ -23,6 +23,10 @@ enum Does {
     Ends,
     Breaks,
     Nothing,
+    /// It wants a front to have room for so many bytes first.
+    Wants(usize),
+    /// Its answer has so many.
+    Tells(usize),
 }
 
 /// A gateway whose time is 1,000,000, and the heads of the requests that come to it, in small letters.
@@ -64,6 +68,16 @@ async fn converse(mut stream: TcpStream, next: impl Fn() -> Does, say: impl Fn(&
                 let answer = "HTTP/1.1 503 Service Unavailable\r\ncontent-length: 2\r\n\r\nno";
                 stream.write_all(answer.as_bytes()).await.ok()?;
             }
+            Does::Wants(bytes) => {
+                let head = format!(
+                    "HTTP/1.1 503 Service Unavailable\r\nx-hobbychair-time: 1000000\r\nx-hobbychair-room: {bytes}\r\n"
+                );
+                stream.write_all(format!("{head}content-length: 2\r\n\r\nno").as_bytes()).await.ok()?;
+            }
+            Does::Tells(bytes) => {
+                let head = format!("HTTP/1.1 200 OK\r\nx-hobbychair-time: 1000000\r\ncontent-length: {bytes}\r\n\r\n");
+                stream.write_all(&[head.as_bytes(), &vec![b'a'; bytes]].concat()).await.ok()?;
+            }
             Does::Breaks => return None,
             Does::Nothing => std::future::pending().await,
         }
@@ -71,7 +85,7 @@ async fn converse(mut stream: TcpStream, next: impl Fn() -> Does, say: impl Fn(&
 }
 
 fn passing_by(follower: Follower) -> Passing {
-    Passing::new(follower, None, Arc::new(Figures::new().unwrap()))
+    Passing::new(follower, None, Arc::new(Figures::new().unwrap()), Arc::default())
 }
 
 fn asked() -> Asked {
@@ -90,7 +104,7 @@ async fn a_request_is_asked_again_as_the_same_call_with_the_same_end() {
     let (tell, follower) = Follower::for_tests();
     tell.send_replace(Some(acting));
     let passing = passing_by(follower);
-    let answer = passing.pass(&asked(), Instant::now(), &share()).await.unwrap();
+    let answer = passing.pass(&asked(), false, Instant::now(), &share()).await.unwrap();
     assert_eq!((answer.status().as_u16(), &answer.body()[..], answer.headers().len()), (200, &b"ok"[..], 0));
     let tries = [heads.recv().await.unwrap(), heads.recv().await.unwrap(), heads.recv().await.unwrap()];
     let again: Vec<bool> = tries.iter().map(|head| head.contains("x-hobbychair-again")).collect();
@@ -111,7 +125,7 @@ async fn where_another_gateway_acts_it_is_asked_at_once() {
     let passing = Arc::new(passing_by(follower));
     let passed = {
         let passing = passing.clone();
-        tokio::spawn(async move { passing.pass(&asked(), Instant::now(), &share()).await })
+        tokio::spawn(async move { passing.pass(&asked(), false, Instant::now(), &share()).await })
     };
     tell.send_replace(Some(first));
     let head = heads.recv().await.unwrap();
@@ -127,7 +141,7 @@ async fn where_nobody_acts_there_is_an_error_after_a_while() {
     let (_tell, follower) = Follower::for_tests();
     let passing = passing_by(follower);
     let arrived = Instant::now();
-    let refused = passing.pass(&asked(), arrived, &share()).await.unwrap_err();
+    let refused = passing.pass(&asked(), false, arrived, &share()).await.unwrap_err();
     assert!(matches!(refused, SqsError::ServiceUnavailable(_)));
     assert_eq!(arrived.elapsed().as_secs(), ASKING.as_secs());
 }
@@ -139,7 +153,44 @@ async fn an_answer_that_there_is_no_room_for_is_refused() {
     tell.send_replace(Some(acting));
     let passing = passing_by(follower);
     let (asked, full) = (asked(), Budget::of(0, 0).share());
-    let refused = passing.pass(&asked, Instant::now(), &full).await.unwrap_err();
+    let refused = passing.pass(&asked, false, Instant::now(), &full).await.unwrap_err();
     assert!(matches!(&refused, SqsError::ServiceUnavailable(why) if why.contains("Too many")), "{refused:?}");
-    assert!(passing.pass(&asked, Instant::now(), &share()).await.is_ok());
+    assert!(passing.pass(&asked, false, Instant::now(), &share()).await.is_ok());
+}
+
+/// What a receive came to that a front with this room passed on to a gateway, for how many bytes it said each time that it has
+/// room, and how many count behind it.
+async fn receive(does: &'static [Does], budget: usize) -> (Result<Response<Bytes>, SqsError>, Vec<usize>, usize) {
+    let (acting, mut heads) = gateway(1, does).await;
+    let (tell, follower) = Follower::for_tests();
+    tell.send_replace(Some(acting));
+    let budget = Budget::of(budget, 0);
+    let share = budget.share();
+    let answer = passing_by(follower).pass(&asked(), true, Instant::now(), &share).await;
+    let rooms = std::iter::from_fn(|| heads.try_recv().ok());
+    (answer, rooms.map(|head| said(&head, "x-hobbychair-room").parse().unwrap()).collect(), budget.used())
+}
+
+#[tokio::test]
+async fn a_receive_is_passed_on_with_room_for_its_answer_and_refused_before_it_is_handed_anything() {
+    let (answer, rooms, used) = receive(&[Does::Wants(50_000), Does::Wants(60_000), Does::Tells(40_000)], 60_000).await;
+    assert_eq!((answer.unwrap().body().len(), rooms, used), (40_000, vec![FIRST_ROOM, 50_000, 60_000], 40_000));
+    let refusal = |answer: Result<Response<Bytes>, SqsError>| match answer {
+        Err(SqsError::ServiceUnavailable(why)) => why,
+        other => panic!("{other:?}"),
+    };
+    let (answer, rooms, used) = receive(&[Does::Wants(60_001)], 60_000).await;
+    assert_eq!(
+        (refusal(answer).as_str(), rooms, used),
+        ("Too many requests are being served.", vec![FIRST_ROOM], FIRST_ROOM)
+    );
+    let (answer, rooms, _) = receive(&[], FIRST_ROOM - 1).await;
+    assert_eq!((refusal(answer).as_str(), rooms), ("Too many requests are being served.", vec![]));
+    // Escapes have made the answer longer than was reckoned with. It is told all the same, and counts.
+    let (answer, rooms, used) = receive(&[Does::Wants(50_000), Does::Tells(70_000)], 60_000).await;
+    assert_eq!((answer.unwrap().body().len(), rooms, used), (70_000, vec![FIRST_ROOM, 50_000], 70_000));
+    // A gateway that wants what it was told is there goes on without end for nobody.
+    let (answer, rooms, _) = receive(&[Does::Wants(50_000), Does::Wants(50_000)], 60_000).await;
+    let answer = answer.unwrap();
+    assert_eq!((answer.status().as_u16(), answer.headers().get("x-hobbychair-room"), rooms.len()), (503, None, 2));
 }

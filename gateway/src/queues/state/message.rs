@@ -97,10 +97,6 @@ impl Messages {
         self.by_sequence.len()
     }
 
-    pub(super) fn is_empty(&self) -> bool {
-        self.by_sequence.is_empty()
-    }
-
     pub(super) fn has(&self, sequence: u64) -> bool {
         self.by_sequence.contains_key(&sequence)
     }

@@ -10,7 +10,9 @@ mod numbers;
 mod older;
 mod peek;
 mod receipts;
+mod recent;
 mod said;
+mod sizes;
 mod stored;
 #[cfg(test)]
 mod tests;
@@ -21,7 +23,7 @@ use std::sync::Arc;
 use uuid::Uuid;
 
 use super::ask::{Ask, Cause, Changer, Delayed, Fate, Handed, Outcome, Reach};
-use super::book::{AttemptEntry, QueueEntry};
+use super::book::{AttemptEntry, AttemptRequest, Entry, QueueEntry};
 use super::groups::{Group, Groups};
 use crate::attributes::QueueAttributes;
 use crate::clock::Moment;
@@ -40,13 +42,26 @@ use message::{Handing, Message, Messages};
 pub use older::OlderFact;
 use older::OlderMessages;
 pub use peek::{Chunk, Cursor, Peeked, Visibility};
+use recent::{RecentSend, SendsById};
 use said::bytes_of_queue;
+use sizes::Sizes;
 
 /// So long a deduplication id counts, in milliseconds. A repeated attempt id is given the same messages as long.
 pub const WINDOW: u64 = 300_000;
 
 /// The most messages of a standard queue that are in flight at once.
 const MOST_IN_FLIGHT: usize = 120_000;
+
+/// What an answer shows of a message beside its envelope has fewer bytes.
+const SHOWN: usize = 1_280;
+
+/// What a queue takes in the bytes of a store.
+#[derive(Clone, Copy, Debug, Default, PartialEq, Eq)]
+pub struct Stored {
+    pub messages: u64,
+    /// What the book says of it, and the queue itself.
+    pub entries: u64,
+}
 
 /// What all messages of a receive have in common.
 struct Receiving<'a> {
@@ -79,8 +94,9 @@ pub struct State {
     /// How often something happened that can open a group.
     pub openings: u64,
     messages: Messages,
-    /// When the messages were sent whose deduplication ids count, in order; the last of them is `last_sequence`.
-    recent: VecDeque<Moment>,
+    /// The sends of the messages whose deduplication ids count, in order; the last of them is `last_sequence`.
+    recent: VecDeque<RecentSend>,
+    sends_by_id: SendsById,
     /// How many of these messages were deleted.
     left_ids: u64,
     /// The ids that an earlier version gave to some of them, in order of sequence numbers. Older ones may be there,
@@ -88,8 +104,8 @@ pub struct State {
     own_ids: VecDeque<(u64, Uuid)>,
     /// What the envelopes of the messages take.
     envelope_bytes: u64,
-    /// The longest envelope since the queue was empty.
-    longest_envelope: u64,
+    /// How long these are.
+    sizes: Sizes,
     attempts: Attempts,
     /// What the attributes say of dead letters.
     redrive: Option<RedrivePolicy>,
@@ -154,10 +170,11 @@ impl State {
             openings: 0,
             messages: Messages::default(),
             recent: VecDeque::new(),
+            sends_by_id: SendsById::default(),
             left_ids: 0,
             own_ids: VecDeque::new(),
             envelope_bytes: 0,
-            longest_envelope: 0,
+            sizes: Sizes::default(),
             attempts: Attempts::default(),
             redrive: entry.attributes.redrive(),
             delay,
@@ -187,7 +204,8 @@ impl State {
             }
             (_, StoreReply::Refused(code)) => Err(SqsError::of_refusal(code)),
             (Ask::Send { group, dedup, envelope, cause }, StoreReply::Sent(place)) => {
-                let applied = self.sent(group, envelope, *cause, place, moment)?;
+                let fingerprint = self.fingerprint_of(dedup);
+                let applied = self.sent(group, envelope, *cause, place, RecentSend { moment, fingerprint })?;
                 if *cause == Cause::Client && self.kind == QueueKind::Standard && self.entry.store.main().is_none() {
                     self.calls.remember(dedup, First::Stored(self.entry.base + place), moment);
                 }
@@ -217,9 +235,9 @@ impl State {
         envelope: &Envelope,
         cause: Cause,
         place: u64,
-        moment: Moment,
+        send: RecentSend,
     ) -> Result<Applied, SqsError> {
-        let sequence = self.entry.base + place;
+        let (sequence, moment) = (self.entry.base + place, send.moment);
         if sequence <= self.last_sequence {
             return Ok(Applied::unchanged(Outcome::Sent { sequence, id: self.own_id(sequence) }));
         }
@@ -245,7 +263,7 @@ impl State {
             // An older journal has a delayed message in a record of its own, until it is due.
             Cause::Client | Cause::Older(_) => own_id(envelope.whole()).filter(|id| !self.older.remove(*id)),
         };
-        self.remember(moment, sequence, id);
+        self.remember(send, sequence, id);
         self.last_sequence = sequence;
         self.last_send = moment;
         let bytes = envelope.bytes() + bytes_of_parts.unwrap_or(0);
@@ -254,7 +272,7 @@ impl State {
             Envelope::Split { whole, .. } => Some(whole.as_str().into()),
         };
         self.envelope_bytes += bytes;
-        self.longest_envelope = self.longest_envelope.max(bytes);
+        self.sizes.add(bytes);
         let group = Group::of(group.as_str());
         if let Some(groups) = &mut self.groups {
             groups.add(group, sequence, 0);
@@ -264,20 +282,21 @@ impl State {
         Ok(Applied { outcome: Outcome::Sent { sequence, id }, opened: true, parts })
     }
 
-    /// Takes up that the next message, of this number, was sent at this moment, with an id of its own or without.
-    fn remember(&mut self, moment: Moment, sequence: u64, id: Option<Uuid>) {
-        self.forget_old_sends(moment);
+    /// Takes up the send of the next message, of this number, with an id of its own or without.
+    fn remember(&mut self, send: RecentSend, sequence: u64, id: Option<Uuid>) {
+        self.forget_old_sends(send.moment);
         let first = self.first_recent();
         while self.own_ids.front().is_some_and(|(own, _)| *own < first) {
             self.own_ids.pop_front();
         }
-        self.recent.push_back(moment);
+        self.recent.push_back(send);
+        self.sent_by_id(send, sequence);
         self.own_ids.extend(id.map(|id| (sequence, id)));
     }
 
     /// Forgets the sends that are too old at this moment.
     fn forget_old_sends(&mut self, now: Moment) {
-        while self.recent.front().is_some_and(|sent| sent + WINDOW <= now) {
+        while self.recent.front().is_some_and(|sent| sent.moment + WINDOW <= now) {
             if !self.messages.has(self.first_recent()) {
                 self.left_ids = self.left_ids.saturating_sub(1);
             }
@@ -311,6 +330,7 @@ impl State {
                 (one, Some(fate)) => set_aside.push((one, fate)),
             }
         }
+        attempt.into_iter().for_each(|attempt| self.attempts.answer(attempt));
         if let (Some(attempt), false) = (attempt, handed.is_empty()) {
             let bytes = self.bytes_of_copies(&handed);
             self.attempts.insert(attempt, Attempt { moment, until, handed: handed.clone(), bytes });
@@ -339,9 +359,15 @@ impl State {
         self.attempts.find(id, now).map(|attempt| self.attempt_entry(id, attempt))
     }
 
-    /// The same of all attempts.
-    pub fn entries_of_attempts(&self) -> Vec<AttemptEntry> {
-        self.attempts.all().map(|(id, attempt)| self.attempt_entry(id, attempt)).collect()
+    /// The same of all attempts, and by which requests those ask that aren't answered.
+    pub fn entries_of_attempts(&self) -> Vec<Entry> {
+        let given = self.attempts.all().map(|(id, attempt)| Entry::Attempt(self.attempt_entry(id, attempt)));
+        given.chain(self.attempts.asked().into_iter().map(Entry::Asked)).collect()
+    }
+
+    /// An attempt is about to ask by a request.
+    pub fn attempt_asks(&mut self, request: &AttemptRequest) {
+        self.attempts.ask(request);
     }
 
     fn hand(&mut self, given: StoreMessage, receiving: &Receiving<'_>) -> Result<(Handed, Option<Fate>), SqsError> {
@@ -385,9 +411,7 @@ impl State {
                 self.due.remove(receipt.sequence);
             }
             self.envelope_bytes -= message.bytes;
-            if self.messages.is_empty() {
-                self.longest_envelope = 0;
-            }
+            self.sizes.remove(message.bytes);
             if receipt.sequence >= self.first_recent() {
                 self.left_ids += 1;
             }
@@ -479,22 +503,32 @@ impl State {
     }
 
     /// What the queue and its messages take in the bytes of a store, by estimates for what stands beside texts.
-    pub fn bytes_stored(&self, keeps_copies: bool) -> u64 {
+    pub fn bytes_stored(&self, keeps_copies: bool) -> Stored {
         if self.removed {
-            return 0;
+            return Stored::default();
         }
         // The copies are kept here alone. What a book says may stand there twice.
         let envelopes = self.envelope_bytes / if keeps_copies { 2 } else { 1 };
         let entries = 2 * self.own_bytes.saturating_sub(QUEUE_BYTES) + STORED_QUEUE_BYTES;
         let (messages, ids) = (self.messages.len() as u64, self.left_ids);
-        envelopes + entries + STORED_MESSAGE_BYTES * messages + STORED_ID_BYTES * ids
+        Stored { messages: envelopes + STORED_MESSAGE_BYTES * messages + STORED_ID_BYTES * ids, entries }
     }
 
     /// How many bytes a receive of `size` messages takes at most until it is answered: their envelopes, what is shown of
     /// them, and the answer.
     pub fn most_handed(&self, size: u8) -> usize {
-        let envelopes = self.envelope_bytes.min(self.longest_envelope * u64::from(size));
-        usize::try_from(3 * envelopes).unwrap_or(usize::MAX)
+        usize::try_from(3 * self.most_envelopes(size)).unwrap_or(usize::MAX)
+    }
+
+    /// How many bytes the answer to a receive of `size` messages has at most, but for characters of bodies that have to be
+    /// escaped in more than one of two.
+    pub fn most_answered(&self, size: u8) -> usize {
+        usize::try_from(2 * self.most_envelopes(size)).unwrap_or(usize::MAX).saturating_add(SHOWN * usize::from(size))
+    }
+
+    /// How many bytes the envelopes of `size` messages have at most.
+    fn most_envelopes(&self, size: u8) -> u64 {
+        self.envelope_bytes.min(self.sizes.longest().saturating_mul(u64::from(size)))
     }
 
     /// What the attempt was given, if that is still all in the hands of who asked
@@ -537,13 +571,14 @@ impl State {
     fn go_over(&mut self) {
         self.last_sequence = self.entry.base;
         self.recent = VecDeque::new();
+        self.sends_by_id = SendsById::default();
         self.left_ids = 0;
         self.own_ids = VecDeque::new();
         self.messages = Messages::default();
         self.groups = self.groups_of_delayed();
         self.older_messages.clear();
         self.envelope_bytes = 0;
-        self.longest_envelope = 0;
+        self.sizes = Sizes::default();
         self.attempts.clear();
     }
 }

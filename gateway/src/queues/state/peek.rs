@@ -77,7 +77,9 @@ impl State {
             bytes += envelope.whole().len() as u64;
         }
         message.group_id = Some(group.as_str().into());
+        self.sizes.remove(message.bytes);
         message.bytes += bytes;
+        self.sizes.add(message.bytes);
         self.envelope_bytes += bytes;
     }
 
