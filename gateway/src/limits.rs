@@ -25,6 +25,13 @@ pub const STORED_MESSAGE_BYTES: u64 = 200;
 pub const STORED_ID_BYTES: u64 = 100;
 pub const STORED_QUEUE_BYTES: u64 = 2_000;
 
+/// What a store keeps for good of the name of a queue or a book that is gone, in bytes of memory and of a file.
+pub const GONE_NAME_BYTES: u64 = 1_700;
+pub const STORED_NAME_BYTES: u64 = 100;
+
+/// Where names that are gone take so large a part of a bound, no more queues are made: messages have the rest.
+const PART_FOR_NAMES: u64 = 4;
+
 /// What is left of the call of a send to a standard queue for five minutes, in bytes: a part of its digest, kept twice,
 /// and which message it sent.
 pub const CALL_BYTES: u64 = 120;
@@ -47,6 +54,11 @@ impl Bound {
         Some(self.limit.load(Ordering::Relaxed)).filter(|limit| *limit > 0)
     }
 
+    /// Whether names that are gone may take so many bytes of it where another queue is made.
+    pub fn takes_names(&self, bytes: u64) -> bool {
+        self.limit().map_or(true, |limit| bytes < limit / PART_FOR_NAMES)
+    }
+
     /// Whether it is full, now that so many bytes are in use.
     pub fn is_full(&self, used: u64) -> bool {
         let Some(limit) = self.limit() else { return false };
@@ -60,6 +72,14 @@ impl Bound {
 #[cfg(test)]
 mod tests {
     use super::*;
+
+    #[test]
+    fn names_that_are_gone_have_a_quarter_of_a_bound() {
+        let bound = Bound::default();
+        assert!(bound.takes_names(u64::MAX));
+        bound.set(Some(400));
+        assert!(bound.takes_names(99) && !bound.takes_names(100));
+    }
 
     #[test]
     fn a_bound_is_full_from_95_percent_on_until_it_is_below_90() {

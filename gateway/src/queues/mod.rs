@@ -2,6 +2,7 @@
 
 pub mod ask;
 pub mod book;
+mod gone_names;
 mod groups;
 mod image;
 mod parts;
@@ -21,6 +22,7 @@ use crate::clock::Moment;
 use crate::delays::Alarms;
 use crate::errors::SqsError;
 use crate::handles::{Handle, Mark, Receipt};
+use crate::limits::STORED_NAME_BYTES;
 use crate::lines::StoreReply;
 use crate::messages::{message_id, own_id};
 use crate::moves::{Copies, Origin};
@@ -29,9 +31,10 @@ use crate::retention::Jumps;
 use crate::texts::{QueueKind, QueueName};
 use ask::{Ask, Cause, Outcome, StoreName, TableChange};
 use book::{size_of_text, Books, Entry, LeftOver, ProgramEntry, QueueEntry, Removal};
+use gone_names::GoneNames;
 pub use image::{Image, ImageError};
 pub use parts::Parts;
-use shards::Shards;
+use shards::{Shard, Shards};
 pub use state::{Chunk, Cursor, OlderFact, Peeked, State, Visibility};
 
 /// So long a name isn't free after its queue was removed, in milliseconds
@@ -144,6 +147,7 @@ pub struct Queues {
     last_book: AtomicU64,
     books: Books,
     left_over: LeftOver,
+    gone_names: GoneNames,
     /// What all queues take of memory, in bytes.
     bytes_in_use: AtomicU64,
     jumps: Jumps,
@@ -181,6 +185,11 @@ impl Queues {
     }
 
     /// Names that go from the store.
+    /// Names that stores keep for good, though no queue has them any more.
+    pub fn gone_names(&self) -> &GoneNames {
+        &self.gone_names
+    }
+
     pub fn left_over(&self) -> &LeftOver {
         &self.left_over
     }
@@ -307,6 +316,7 @@ impl Queues {
                 Ok(Outcome::Done)
             }
             (Ask::Remove { store }, StoreReply::Removed) => {
+                self.gone_names.add(place, 1);
                 if let Some(number) = store.book() {
                     let bytes = self.books.remove(place, number);
                     self.bytes_in_use.fetch_sub(bytes, Ordering::Relaxed);
@@ -351,6 +361,7 @@ impl Queues {
             }
             // The tables have it.
             Entry::Attempt(_) | Entry::Older(..) => {}
+            Entry::Asked(asked) => queue.state().attempt_asks(asked),
             Entry::Program(program) => self.program_said(program, book),
             Entry::Jump(moment, uncounted) => self.jumps.add(*moment, *uncounted),
         }
@@ -497,10 +508,16 @@ impl Queues {
         self.bytes_in_use.load(Ordering::Relaxed)
     }
 
-    /// What these queues take in the bytes of stores, by an estimate. Takes time in proportion to the number of queues.
-    pub fn bytes_stored(&self, is_among: impl Fn(&QueueName) -> bool) -> u64 {
-        let queues = self.all_and_delays().into_iter().filter(|queue| is_among(&queue.name));
-        queues.map(|queue| queue.state().bytes_stored(self.keeps_copies)).sum()
+    /// What the queues of this program, its books and the names that it keeps take in the bytes of a store, by an estimate. Takes time
+    /// in proportion to the number of queues.
+    pub fn bytes_stored(&self, shard: Shard) -> u64 {
+        let queues = self.all_and_delays().into_iter().filter(|queue| shard.has(&queue.name));
+        let (of_messages, of_entries) = queues.fold((0, 0), |(messages, entries), queue| {
+            let stored = queue.state().bytes_stored(self.keeps_copies);
+            (messages + stored.messages, entries + stored.entries)
+        });
+        let names = STORED_NAME_BYTES * self.gone_names.of(shard.place());
+        of_messages + of_entries.max(self.books.bytes_stored(shard.place())) + names
     }
 
     /// Takes out of the count what counts no more at this moment. Takes time in proportion to the number of queues.

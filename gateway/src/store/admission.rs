@@ -5,7 +5,7 @@ use std::sync::Arc;
 
 use crate::clock::Moment;
 use crate::errors::SqsError;
-use crate::limits::{Bound, MESSAGE_BYTES, QUEUE_BYTES};
+use crate::limits::{Bound, GONE_NAME_BYTES, MESSAGE_BYTES, QUEUE_BYTES};
 use crate::queues::ask::{Ask, Cause, PartsAsk, PartsCause};
 use crate::queues::book::Entry;
 use crate::queues::{Queue, Queues};
@@ -52,7 +52,8 @@ impl Admission {
 
     /// What is in use of memory, in bytes.
     pub fn bytes_in_use(&self) -> u64 {
-        self.queues.bytes_in_use() + self.coming.load(Ordering::Relaxed)
+        let names = GONE_NAME_BYTES * self.queues.gone_names().all();
+        self.queues.bytes_in_use() + names + self.coming.load(Ordering::Relaxed)
     }
 
     /// Lets an ask pass, or refuses what adds something where the bound is full. Tells how many bytes it was counted

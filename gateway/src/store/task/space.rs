@@ -59,6 +59,11 @@ impl Space {
         has_space
     }
 
+    /// Whether names that are gone may take so many bytes of it where another queue is made.
+    pub(super) fn takes_names(&self, bytes: u64) -> bool {
+        self.bound.takes_names(bytes)
+    }
+
     fn with(&self, more: u64) -> u64 {
         self.counted + self.added + more
     }
