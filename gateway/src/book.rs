@@ -189,7 +189,7 @@ async fn say_all(store: &Store, place: usize) -> Result<(), SqsError> {
 /// Has a book say what nothing but the store says, where programs keep their entries: which program has it, the jumps of the
 /// clock, and what attempts were given.
 async fn say_program(store: &Store, place: usize) -> Result<(), SqsError> {
-    let attempts = of_place(store, place).flat_map(|queue| queue.state().entries_of_attempts()).map(Entry::Attempt);
+    let attempts = of_place(store, place).flat_map(|queue| queue.state().entries_of_attempts());
     let jumps = store.queues().jumps().all().into_iter().map(|(moment, uncounted)| Entry::Jump(moment, uncounted));
     let program = Entry::Program(program_entry(store, place));
     let entries = attempts.chain(jumps).chain(older_facts(store, place)).chain([program]);

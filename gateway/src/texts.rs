@@ -1,7 +1,9 @@
 //! Texts that were tested. Each type is made in one place, and only these types reach the store.
 
+use std::collections::hash_map::RandomState;
 use std::fmt;
-use std::sync::Arc;
+use std::hash::BuildHasher;
+use std::sync::{Arc, OnceLock};
 
 use serde::{Deserialize, Serialize};
 use sha2::{Digest, Sha256};
@@ -164,9 +166,20 @@ impl DedupId {
         DedupId(hex(&digest.finalize()))
     }
 
+    /// A number by which it is known among others as long as this process lives. Nobody can choose ids that have the same.
+    pub fn fingerprint(&self) -> u64 {
+        fingerprint_of(&self.0)
+    }
+
     pub fn as_str(&self) -> &str {
         &self.0
     }
+}
+
+/// That of the deduplication id of this text.
+pub fn fingerprint_of(id: &str) -> u64 {
+    static KEYS: OnceLock<RandomState> = OnceLock::new();
+    KEYS.get_or_init(RandomState::new).hash_one(id)
 }
 
 /// A part of a call's digest, by which it is known among others.

@@ -34,6 +34,7 @@ impl Actions {
             presence: Presence::default(),
             identity: None,
             call: None,
+            room: None,
             asked_before: false,
             share,
         };

@@ -2,6 +2,8 @@
 
 use std::sync::Arc;
 
+use hmac::{Hmac, Mac};
+use sha2::Sha256;
 use uuid::{Builder, Uuid};
 
 use super::{Actions, Caller, Performed};
@@ -15,6 +17,9 @@ use crate::wire::requests::{Action, StartMove, TaskHandle};
 use crate::wire::responses::ListedTask;
 use crate::wire::Response;
 
+/// What tells the digests of ids of tasks from all others by the same secret.
+const TASK: &[u8] = b"task";
+
 fn no_resource(parameter: &str) -> SqsError {
     SqsError::ResourceNotFound(format!("The resource that you specified for the {parameter} parameter doesn't exist."))
 }
@@ -25,10 +30,16 @@ impl Actions {
         own.and_then(|arn| self.store.queues().find(&arn.name)).ok_or_else(|| no_resource(parameter))
     }
 
-    /// Starts a task, unless one of the queue runs (API Reference, StartMessageMoveTask).
+    /// Starts a task, unless one of the queue runs (API Reference, StartMessageMoveTask). A repeat of the call that started one
+    /// of the last tasks is told that one's handle.
     pub(super) async fn start_move(&self, start: StartMove, caller: &Caller) -> Result<Performed, SqsError> {
         let queue = self.queue_of_arn(start.source.as_ref(), "SourceArn")?;
         let _locked = self.lock_of(&queue.name).lock().await;
+        let id_of_call = self.id_of_call(&queue, caller);
+        if let Some(id) = id_of_call.filter(|id| find(&queue, *id).is_some()) {
+            let handle = TaskHandle { id, queue: queue.name.clone() };
+            return Ok(Response::TaskHandle(handle.outward()).into());
+        }
         let names_it =
             |other: &Arc<Queue>| other.state().redrive().is_some_and(|policy| policy.target.name == queue.name);
         let sources: Vec<_> = self.store.queues().all().into_iter().filter(names_it).collect();
@@ -62,7 +73,7 @@ impl Actions {
                 return Err(SqsError::InvalidParameterValue(message.into()));
             }
             MoveTask {
-                id: Builder::from_random_bytes(rand::random()).into_uuid(),
+                id: id_of_call.unwrap_or_else(|| Builder::from_random_bytes(rand::random()).into_uuid()),
                 destination,
                 rate: start.rate,
                 up_to: state.last_sequence,
@@ -80,6 +91,18 @@ impl Actions {
         let handle = TaskHandle { id, queue: queue.name.clone() }.outward();
         tokio::spawn(run(self.store.clone(), self.rights.clone(), queue, id));
         Ok(Response::TaskHandle(handle).into())
+    }
+
+    /// The id of the task that a call starts, where its repeats can be told. Where programs keep their entries, every gateway
+    /// that has them makes the same one of it.
+    fn id_of_call(&self, queue: &Queue, caller: &Caller) -> Option<Uuid> {
+        let secret = self.store.secret_of(queue).unwrap_or(self.secret);
+        let mut mac = Hmac::<Sha256>::new_from_slice(secret.as_bytes()).ok()?;
+        mac.update(TASK);
+        mac.update(&caller.call?);
+        let digest: [u8; 32] = mac.finalize().into_bytes().into();
+        let front = digest[..16].try_into().ok()?;
+        Some(Builder::from_random_bytes(front).into_uuid())
     }
 
     /// Messages go back to where they came from: to none of these, unless the caller's key allows all. The refusal names

@@ -24,7 +24,7 @@ impl Names {
     pub fn load(&mut self, part: &Part<'_>) {
         match part {
             // Of which incarnation its message was isn't told there.
-            Part::Client { client, number } => {
+            Part::Client { client, number, .. } => {
                 self.clients.insert(*client, Last { number: *number, incarnation: 0 });
             }
             Part::Name { name, queue: Some(queue), .. } => {

@@ -10,7 +10,7 @@ use super::book::Entry;
 use crate::attributes::GivenAttributes;
 use crate::clock::Moment;
 use crate::handles::Receipt;
-use crate::messages::Envelope;
+use crate::messages::{read_envelope, Envelope};
 use crate::move_tasks::MoveTask;
 use crate::moves::Origin;
 use crate::texts::{AttemptId, DedupId, GroupId};
@@ -179,6 +179,22 @@ impl Ask {
     /// Whether this sends an envelope that has to be put in parts before.
     pub fn is_too_long(&self) -> bool {
         matches!(self, Ask::Send { envelope: Envelope::Split { .. }, .. })
+    }
+
+    /// The id that a client's send to a FIFO queue would have in the store if `DeduplicationScope` were the other one.
+    pub fn id_of_other_scope(&self) -> Option<DedupId> {
+        let Ask::Send { group, dedup, envelope, cause: Cause::Client } = self else { return None };
+        let (metadata, _) = read_envelope(envelope.whole())?;
+        let given = metadata.dedup?;
+        [given.within(group), given].into_iter().find(|id| id != dedup)
+    }
+
+    /// The attempt that it belongs to, if it does to one.
+    pub fn attempt(&self) -> Option<&AttemptId> {
+        match self {
+            Ask::Receive { attempt, .. } => attempt.as_ref(),
+            _ => None,
+        }
     }
 
     /// Whether this reads the parts of a message.

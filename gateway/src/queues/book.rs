@@ -12,7 +12,7 @@ use super::ask::StoreName;
 use super::OlderFact;
 use crate::attributes::QueueAttributes;
 use crate::clock::Moment;
-use crate::limits::MESSAGE_BYTES;
+use crate::limits::{MESSAGE_BYTES, STORED_MESSAGE_BYTES};
 use crate::move_tasks::MoveTask;
 use crate::texts::{AttemptId, QueueName};
 
@@ -28,6 +28,8 @@ pub enum Entry {
     Program(ProgramEntry),
     /// Where programs do so: what a receive with an attempt id was given.
     Attempt(AttemptEntry),
+    /// Where programs do so: by which request a receive with an attempt id asks, ahead of that.
+    Asked(AttemptRequest),
     /// Where programs do so: of the time before a start at this moment so many milliseconds make no message older.
     Jump(Moment, u64),
     /// Where programs do so: what a journal of an earlier version had beside the store of messages of the queue of this mark.
@@ -48,6 +50,9 @@ pub struct QueueEntry {
     pub tags: BTreeMap<String, String>,
     pub created: Moment,
     pub modified: Moment,
+    /// When its `DeduplicationScope` was changed the last time.
+    #[serde(default, skip_serializing_if = "Option::is_none")]
+    pub rescoped: Option<Moment>,
     #[serde(default, skip_serializing_if = "Option::is_none")]
     pub purged: Option<Moment>,
     #[serde(default, skip_serializing_if = "Option::is_none")]
@@ -93,6 +98,17 @@ pub struct AttemptEntry {
     pub handed: Vec<(u64, u64)>,
 }
 
+/// The request by which a receive with an attempt id asks, of the queue of this mark. If the store has it as the client's last
+/// one, its kept reply says what the attempt was given: nobody may have been told that.
+#[derive(Clone, Debug, PartialEq, Eq, Serialize, Deserialize)]
+pub struct AttemptRequest {
+    pub mark: u64,
+    pub id: AttemptId,
+    pub moment: Moment,
+    pub client: u32,
+    pub number: u64,
+}
+
 fn is_zero(number: &u64) -> bool {
     *number == 0
 }
@@ -135,7 +151,8 @@ impl QueueEntry {
         created: Moment,
     ) -> QueueEntry {
         let modified = created;
-        QueueEntry { store, name, mark, base: 0, attributes, tags, created, modified, purged: None, purging: None }
+        let (rescoped, purged, purging) = (None, None, None);
+        QueueEntry { store, name, mark, base: 0, attributes, tags, created, modified, rescoped, purged, purging }
     }
 
     /// Whether a purge begins with this entry, where the one before it was that. In journals up to version 5 nothing says that
@@ -171,8 +188,9 @@ pub fn size_of_text(text: &str) -> u64 {
 #[derive(Clone, Copy, Debug)]
 struct Book {
     number: u64,
-    /// What its entries take of memory.
+    /// What its entries take of memory, and how many there are.
     size: u64,
+    entries: u64,
     /// It says which program has it.
     has_program: bool,
 }
@@ -189,7 +207,7 @@ impl Books {
 
     /// The store has this one, and from now on it is written to.
     pub fn add(&self, place: usize, number: u64) {
-        self.books().entry(place).or_default().push(Book { number, size: 0, has_program: false });
+        self.books().entry(place).or_default().push(Book { number, size: 0, entries: 0, has_program: false });
     }
 
     /// The store hasn't got it any more. Tells what its entries took of memory.
@@ -205,6 +223,7 @@ impl Books {
     pub fn count(&self, place: usize, number: u64, size: u64) -> u64 {
         if let Some(book) = self.books().entry(place).or_default().iter_mut().find(|book| book.number == number) {
             book.size += size;
+            book.entries += 1;
             return size;
         }
         0
@@ -235,6 +254,12 @@ impl Books {
     /// What its entries take of memory.
     pub fn bytes_of_current(&self, place: usize) -> u64 {
         self.books().get(&place).and_then(|books| books.last()).map_or(0, |book| book.size)
+    }
+
+    /// What those of this program take in the bytes of a store, by an estimate for what stands beside texts.
+    pub fn bytes_stored(&self, place: usize) -> u64 {
+        let less = MESSAGE_BYTES - STORED_MESSAGE_BYTES;
+        self.books().get(&place).map_or(0, |books| books.iter().map(|book| book.size - less * book.entries).sum())
     }
 
     /// The numbers of those before it.

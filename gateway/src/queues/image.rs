@@ -5,12 +5,13 @@
 mod tests;
 
 use std::collections::{BTreeMap, HashMap};
+use std::sync::atomic::{AtomicU64, Ordering};
 use std::sync::Arc;
 
 use thiserror::Error;
 
 use super::ask::StoreName;
-use super::book::{size_of_text, AttemptEntry, Entry};
+use super::book::{size_of_text, AttemptEntry, AttemptRequest, Entry};
 use super::groups::Group;
 use super::shards::Shard;
 use super::{OlderFact, Queue, Queues};
@@ -19,7 +20,7 @@ use crate::messages::EnvelopeHead;
 use crate::move_tasks::MoveTask;
 use crate::moves::{CopyId, Origin};
 use crate::store_bytes::{Fault, Part, QueuePart, StoreReader};
-use crate::texts::CallKey;
+use crate::texts::{fingerprint_of, AttemptId, CallKey};
 
 /// Why there are no tables of a store's bytes.
 #[derive(Debug, Error)]
@@ -30,6 +31,9 @@ pub enum ImageError {
     Foreign(String, &'static str),
 }
 
+/// Of clients whose last request handed messages out: its number, and the sequence number and the ordinal of each handing.
+type Handed = HashMap<u32, (u64, Vec<(u64, u64)>)>;
+
 /// What the bytes of one program's store say, as far as the tables need it.
 #[derive(Default)]
 pub struct Image {
@@ -38,6 +42,7 @@ pub struct Image {
     keeps_copies: bool,
     last: Moment,
     largest_number: u64,
+    handed: Handed,
     /// The names that the store has had, and those of their queues that live.
     names: BTreeMap<StoreName, Option<StoredQueue>>,
     current: Option<StoreName>,
@@ -45,6 +50,8 @@ pub struct Image {
     removed_parts: Vec<(u64, Moment)>,
     /// How many bytes of messages in flight are kept, since attempts may have been given them.
     in_flight: usize,
+    /// Rises by each byte that is read and each message of the tables, so that others see that this moves on.
+    far: Arc<AtomicU64>,
 }
 
 /// Numbers of requests rise by one, and so far none comes.
@@ -64,6 +71,8 @@ pub(super) struct StoredQueue {
     pub(super) accepted: Vec<AcceptedSend>,
     /// What attempts were given, in the order in which books say it.
     pub(super) attempts: Vec<AttemptEntry>,
+    /// What attempts were given by requests of which no book says that: their ids, and the handings of messages.
+    pub(super) untold: Vec<(AttemptId, Vec<(u64, u64)>)>,
     /// What an older journal had beside the store, in that order.
     pub(super) older: Vec<OlderFact>,
 }
@@ -120,6 +129,7 @@ impl StoredHead {
 
 pub(super) struct AcceptedSend {
     pub(super) call: Option<CallKey>,
+    pub(super) fingerprint: u64,
     /// What it seems to be the copy of.
     copy: Option<CopyId>,
     pub(super) moment: Moment,
@@ -158,8 +168,14 @@ impl Image {
         Image { keeps_copies, ..Image::default() }
     }
 
+    /// The same, which counts how far it is, and how far its tables are, by this.
+    pub fn counted_by(self, far: Arc<AtomicU64>) -> Image {
+        Image { far, ..self }
+    }
+
     /// Takes up a chunk of the store.
     pub fn feed(&mut self, chunk: &[u8]) -> Result<(), ImageError> {
+        self.far.fetch_add(chunk.len() as u64, Ordering::Relaxed);
         let mut reader = std::mem::take(&mut self.reader);
         let mut taken = Ok(());
         reader.feed(chunk, |part| {
@@ -184,13 +200,20 @@ impl Image {
     fn take(&mut self, part: &Part<'_>) -> Result<(), ImageError> {
         match part {
             Part::Start { last, .. } => self.last = *last,
-            Part::Client { number, .. } => self.largest_number = self.largest_number.max(*number),
+            Part::Client { client, number, handed } => {
+                self.largest_number = self.largest_number.max(*number);
+                let receipts = handed.receipts();
+                if !receipts.is_empty() {
+                    self.handed.insert(*client, (*number, receipts));
+                }
+            }
             Part::Name { name, removed, queue, .. } => self.take_name(name, *removed, queue.as_ref())?,
             Part::Message { .. } => self.take_message(part)?,
             Part::Accepted { id, moment, sequence } => {
                 if let Some(queue) = self.current_queue() {
                     let (call, copy) = (CallKey::of(id), CopyId::read(id));
-                    queue.accepted.push(AcceptedSend { call, copy, moment: *moment, sequence: *sequence });
+                    let (fingerprint, moment, sequence) = (fingerprint_of(id), *moment, *sequence);
+                    queue.accepted.push(AcceptedSend { call, fingerprint, copy, moment, sequence });
                 }
             }
             Part::End => {}
@@ -260,9 +283,11 @@ impl Queues {
             return Err(ImageError::Foreign(image.largest_number.to_string(), "no request has such a number"));
         }
         image.names.keys().for_each(|name| self.saw_store_name(*name));
+        let gone = image.names.iter().filter(|(name, queue)| queue.is_none() && name.parts().is_none());
+        self.gone_names.add(place, gone.count() as u64);
         let living = image.names.into_iter().filter_map(|(name, queue)| Some((name, queue?)));
         let (books, mut living): (BTreeMap<_, _>, BTreeMap<_, _>) = living.partition(|(name, _)| name.book().is_some());
-        let Told { by_mark, mut attempts, mut older, .. } = self.take_up_books(shard, books)?;
+        let Told { by_mark, mut attempts, mut asked, mut older, .. } = self.take_up_books(shard, books)?;
         let is_there = |queue: &Arc<Queue>| self.find(&queue.name).is_some_and(|found| Arc::ptr_eq(&found, queue));
         for (mark, queue) in by_mark.into_iter().filter(|(_, queue)| is_there(queue)) {
             let (store, base) = {
@@ -272,12 +297,14 @@ impl Queues {
             let not_there = || ImageError::Foreign(store.text(), "a book says of it, and it isn't there");
             let mut stored = living.remove(&store).ok_or_else(not_there)?;
             stored.attempts = attempts.remove(&mark).unwrap_or_default();
+            let asked = asked.remove(&mark).unwrap_or_default();
+            stored.untold = asked.into_iter().filter_map(|asked| untold(&image.handed, asked)).collect();
             stored.older = older.remove(&mark).unwrap_or_default();
             if !stored.put_lines(base) {
                 return Err(no_envelope(store));
             }
             self.take_up_copies(place, &stored.accepted);
-            let copied = self.take_up_messages(&queue, stored, image.last);
+            let copied = self.take_up_messages(&queue, stored, (image.last, &image.far));
             if let Some(mut stored) = living.remove(&store.of_delays()) {
                 let delays = Arc::new(Queue::beside(&queue, store).0);
                 stored.older = older.remove(&delays.mark.0).unwrap_or_default();
@@ -285,7 +312,7 @@ impl Queues {
                     return Err(no_envelope(store.of_delays()));
                 }
                 self.created(place, &delays, store.of_delays());
-                self.take_up_delayed(&queue, &delays, stored, image.last);
+                self.take_up_delayed(&queue, &delays, stored, (image.last, &image.far));
                 let mut state = delays.state();
                 let of_delayed = copied.iter().filter(|origin| origin.mark == delays.mark.0);
                 of_delayed.for_each(|origin| state.has_copy(origin.sequence));
@@ -326,22 +353,40 @@ impl Queues {
         copies.for_each(|origin| self.copies.mark_copied(origin));
     }
 
-    /// Takes up the messages of a queue. Tells of which messages they are copies.
-    fn take_up_messages(&self, queue: &Arc<Queue>, stored: StoredQueue, last: Moment) -> Vec<Origin> {
-        let Named { parts, origins } = self.counted(queue, |state| state.take_up(stored, last, self.keeps_copies));
+    /// Takes up the messages of a queue, and counts them. Tells of which messages they are copies.
+    fn take_up_messages(
+        &self,
+        queue: &Arc<Queue>,
+        stored: StoredQueue,
+        (last, far): (Moment, &AtomicU64),
+    ) -> Vec<Origin> {
+        let taken_up = self.counted(queue, |state| state.take_up(stored, (last, far), self.keeps_copies));
+        let Named { parts, origins } = taken_up;
         parts.into_iter().for_each(|number| self.parts.name(number));
         origins.iter().for_each(|origin| self.copies.mark_copied(*origin));
         origins
     }
 
     /// The same of a queue beside another, which has what is delayed.
-    fn take_up_delayed(&self, queue: &Arc<Queue>, delays: &Arc<Queue>, stored: StoredQueue, last: Moment) {
+    fn take_up_delayed(
+        &self,
+        queue: &Arc<Queue>,
+        delays: &Arc<Queue>,
+        stored: StoredQueue,
+        (last, far): (Moment, &AtomicU64),
+    ) {
         self.counted(queue, |state| state.take_up_delayed_calls(delays.mark, &stored.accepted, last));
-        self.take_up_messages(delays, stored, last);
+        self.take_up_messages(delays, stored, (last, far));
         let purging = queue.state().entry.purging;
         delays.state().purge_with(purging);
         self.alarms.set_next(delays);
     }
+}
+
+/// What an attempt was given by a request that is its client's last one.
+fn untold(handed: &Handed, asked: AttemptRequest) -> Option<(AttemptId, Vec<(u64, u64)>)> {
+    let (_, receipts) = handed.get(&asked.client).filter(|(number, _)| *number == asked.number)?;
+    Some((asked.id, receipts.clone()))
 }
 
 /// Whether an entry that says which program has its book says that of this one.
@@ -360,13 +405,14 @@ struct Told<'a> {
     /// Tasks of queues of which nothing was said yet: where a book was begun anew, they stand before their queue.
     tasks: HashMap<u64, Vec<(MoveTask, u64, u64)>>,
     attempts: HashMap<u64, Vec<AttemptEntry>>,
+    asked: HashMap<u64, Vec<AttemptRequest>>,
     older: HashMap<u64, Vec<OlderFact>>,
 }
 
 impl Told<'_> {
     fn new(queues: &Queues, place: usize) -> Told<'_> {
-        let (by_mark, tasks, attempts, older) = Default::default();
-        Told { queues, place, by_mark, tasks, attempts, older }
+        let (by_mark, tasks, attempts, asked, older) = Default::default();
+        Told { queues, place, by_mark, tasks, attempts, asked, older }
     }
 
     fn take(&mut self, entry: &Entry, book: u64, size: u64) {
@@ -393,6 +439,7 @@ impl Told<'_> {
                 None => self.tasks.entry(*mark).or_default().push((task.clone(), book, size)),
             },
             Entry::Attempt(attempt) => self.attempts.entry(attempt.mark).or_default().push(attempt.clone()),
+            Entry::Asked(asked) => self.asked.entry(asked.mark).or_default().push(asked.clone()),
             Entry::Program(program) => queues.program_said(program, book),
             Entry::Jump(moment, uncounted) => queues.jumps.add(*moment, *uncounted),
             Entry::Older(mark, facts) => self.older.entry(*mark).or_default().extend(facts.iter().cloned()),

@@ -9,7 +9,7 @@ use crate::clock::Moment;
 use crate::lines::{AskFields, AskKind};
 use crate::queues::ask::StoreName;
 use crate::store_bytes::written::{append, chunk};
-use crate::store_bytes::{Part, QueuePart};
+use crate::store_bytes::{KeptHandings, Part, QueuePart};
 
 const WINDOW: u64 = 300_000;
 
@@ -88,7 +88,7 @@ impl StoreByRules {
             written += 1;
         };
         write(&Part::Start { entries: self.entries, last: self.last });
-        write(&Part::Client { client: 1, number: largest_number });
+        write(&Part::Client { client: 1, number: largest_number, handed: KeptHandings::default() });
         // In which order names stand isn't said.
         let mut names: Vec<_> = self.names.iter().collect();
         if self.entries % 2 == 0 {

@@ -311,13 +311,12 @@ impl Living {
         let store = StoreName::of_book(self.queues.next_book(self.shards, place));
         self.ask(&self.nameless(), Ask::Create { store, visibility: 0, bytes: 0 }).unwrap();
         let attempts: Vec<_> = self.queues.all().iter().flat_map(|queue| queue.state().entries_of_attempts()).collect();
-        let of_place = attempts.into_iter().filter(|attempt| {
+        let of_place = attempts.into_iter().filter(|entry| {
+            let Entry::Attempt(attempt) = entry else { return false };
             let of_mark = self.queues.all().into_iter().find(|queue| queue.mark.0 == attempt.mark);
             of_mark.is_some_and(|queue| self.shards.place_of(&queue.name) == place)
         });
-        of_place.collect::<Vec<_>>().into_iter().for_each(|attempt| {
-            self.say(&self.nameless(), place, Entry::Attempt(attempt));
-        });
+        of_place.collect::<Vec<_>>().into_iter().for_each(|entry| self.say(&self.nameless(), place, entry));
         let mut queues = self.queues.all();
         queues.retain(|queue| self.shards.place_of(&queue.name) == place);
         for queue in queues {

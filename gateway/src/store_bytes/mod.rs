@@ -14,6 +14,8 @@ use std::collections::HashSet;
 use thiserror::Error;
 
 use crate::clock::Moment;
+#[cfg(test)]
+pub use parts::KeptHandings;
 use parts::{Bytes, Digest, Mention};
 pub use parts::{Part, QueuePart};
 

@@ -13,7 +13,7 @@ const MOST_USES: u64 = 1 << 62;
 const LONGEST_TIMEOUT: u32 = 43_200;
 const MOST_REFUSALS: u32 = 8;
 
-/// A part of a store. Kept replies are read and not told.
+/// A part of a store. Of kept replies what they handed out is told.
 #[derive(Clone, Copy, Debug, PartialEq, Eq)]
 pub enum Part<'a> {
     /// How many entries the store took, and the moment of the last, or 0.
@@ -25,6 +25,7 @@ pub enum Part<'a> {
     Client {
         client: u32,
         number: u64,
+        handed: KeptHandings<'a>,
     },
     /// `removed` is the last removal.
     Name {
@@ -48,6 +49,49 @@ pub enum Part<'a> {
         sequence: u64,
     },
     End,
+}
+
+/// What the reply to a client's last request handed out, by the bytes in which it stands.
+#[derive(Clone, Copy, Debug, Default, PartialEq, Eq)]
+pub struct KeptHandings<'a>(&'a [u8]);
+
+impl KeptHandings<'_> {
+    /// The sequence number and the ordinal of each message; none where the reply is of another kind.
+    pub fn receipts(self) -> Vec<(u64, u64)> {
+        let mut bytes = Bytes(self.0);
+        let receipt = || bytes.kept_delivery().ok().map(|([_, sequence, ordinal], _)| (sequence, ordinal));
+        std::iter::from_fn(receipt).collect()
+    }
+
+    /// The reply that hands this out, or the shortest one.
+    #[cfg(test)]
+    pub(super) fn append(self, out: &mut Vec<u8>) {
+        if self.0.is_empty() {
+            return out.push(5);
+        }
+        out.push(3);
+        out.extend((self.receipts().len() as u64).to_le_bytes());
+        out.extend(self.0);
+    }
+
+    /// What handed out these messages, of one body that no other reply mentions.
+    #[cfg(test)]
+    pub fn written<'b>(receipts: &[(u64, u64)], bytes: &'b mut Vec<u8>) -> KeptHandings<'b> {
+        for (place, (sequence, ordinal)) in receipts.iter().enumerate() {
+            [1, *sequence, *ordinal].iter().for_each(|number| bytes.extend(number.to_le_bytes()));
+            bytes.extend(1u32.to_le_bytes());
+            bytes.push(b'g');
+            if place == 0 {
+                bytes.push(0);
+                bytes.extend(4u32.to_le_bytes());
+                bytes.extend(b"body");
+            } else {
+                bytes.push(1);
+                bytes.extend(0u64.to_le_bytes());
+            }
+        }
+        KeptHandings(bytes)
+    }
 }
 
 /// A queue that lives.
@@ -161,8 +205,8 @@ impl<'a> Bytes<'a> {
             0 => Part::Start { entries: self.number64()?, last: self.moment()? },
             1 => {
                 let (client, number) = (self.number32()?, self.number64()?);
-                self.kept_reply(mentions)?;
-                Part::Client { client, number }
+                let handed = self.kept_reply(mentions)?;
+                Part::Client { client, number, handed }
             }
             2 => Part::Name {
                 name: self.name()?,
@@ -199,19 +243,30 @@ impl<'a> Bytes<'a> {
         Ok(Part::Message { sequence, group, body, handings, handed, until })
     }
 
-    /// Passes over a kept reply, but for what it mentions.
-    fn kept_reply(&mut self, mentions: &mut Vec<Mention>) -> Result<(), Fault> {
-        match self.byte()? {
+    /// Passes over a kept reply, but for what it mentions and hands out.
+    fn kept_reply(&mut self, mentions: &mut Vec<Mention>) -> Result<KeptHandings<'a>, Fault> {
+        let kind = self.byte()?;
+        if kind == 3 {
+            return self.kept_handings(mentions);
+        }
+        self.reply_of_other_kind(kind).map(|()| KeptHandings::default())
+    }
+
+    fn kept_handings(&mut self, mentions: &mut Vec<Mention>) -> Result<KeptHandings<'a>, Fault> {
+        let count = self.number64()?;
+        let from = self.0;
+        for _ in 0..count {
+            mentions.push(self.kept_delivery()?.1);
+        }
+        Ok(KeptHandings(&from[..from.len() - self.0.len()]))
+    }
+
+    fn reply_of_other_kind(&mut self, kind: u8) -> Result<(), Fault> {
+        match kind {
             // Created, and Sent.
             0 | 2 => self.number64().map(drop),
             // Removed, and Changed.
             1 | 5 => Ok(()),
-            3 => {
-                for _ in 0..self.number64()? {
-                    mentions.push(self.kept_delivery()?);
-                }
-                Ok(())
-            }
             4 => self.flag().map(drop),
             6 => self.number64().and_then(|_| self.number64()).map(drop),
             7 => match self.number32()? {
@@ -222,17 +277,19 @@ impl<'a> Bytes<'a> {
         }
     }
 
-    fn kept_delivery(&mut self) -> Result<Mention, Fault> {
+    /// A receipt, and the body that it mentions.
+    fn kept_delivery(&mut self) -> Result<([u64; 3], Mention), Fault> {
         let receipt = [self.number64()?, self.number64()?, self.number64()?];
         if receipt.contains(&0) {
             return Err(Fault::BadNumber);
         }
         self.id()?;
-        match self.byte()? {
-            0 => self.body().map(|body| Mention::First(digest(body))),
-            1 => self.number64().map(Mention::Again),
-            _ => Err(Fault::BadTag),
-        }
+        let mention = match self.byte()? {
+            0 => Mention::First(digest(self.body()?)),
+            1 => Mention::Again(self.number64()?),
+            _ => return Err(Fault::BadTag),
+        };
+        Ok((receipt, mention))
     }
 }
 

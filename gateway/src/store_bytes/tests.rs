@@ -32,7 +32,7 @@ fn words_of(part: &Part<'_>) -> String {
     let optional = |moment: &Option<Moment>| moment.map_or("none".to_string(), |moment| moment.to_string());
     match part {
         Part::Start { entries, last } => format!("{entries} {last}"),
-        Part::Client { client, number } => format!("client {client} {number}"),
+        Part::Client { client, number, .. } => format!("client {client} {number}"),
         Part::Name { name, creations, removed, queue } => {
             let queue = queue.map_or("none".to_string(), |queue| {
                 let QueuePart { incarnation, timeout, makes_ids, sent, uses, last } = queue;
@@ -111,7 +111,7 @@ fn read_parts(parts: &[Part<'_>]) -> Result<String, Fault> {
 fn each_part_stands_where_it_can() {
     let living = QueuePart { incarnation: 1, timeout: 30, makes_ids: false, sent: 2, uses: 3, last: 9 };
     let start = Part::Start { entries: 3, last: 9 };
-    let client = |client| Part::Client { client, number: 7 };
+    let client = |client| Part::Client { client, number: 7, handed: KeptHandings::default() };
     let name = |name, creations, queue| Part::Name { name, creations, removed: None, queue };
     let (queue, removed) = (name("q.fifo", 1, Some(living)), name("r.fifo", 1, None));
     let handed = |sequence, handings| {

@@ -7,7 +7,7 @@ pub fn chunk() -> Vec<u8> {
     vec![VERSION]
 }
 
-/// The bytes of a part. A client has the shortest reply.
+/// The bytes of a part. A client has the shortest reply, or one that hands out what it says.
 pub fn append(out: &mut Vec<u8>, part: &Part<'_>) {
     fn number(out: &mut Vec<u8>, number: u64) {
         out.extend(number.to_le_bytes());
@@ -21,11 +21,11 @@ pub fn append(out: &mut Vec<u8>, part: &Part<'_>) {
             out.push(0);
             [*entries, *last].into_iter().for_each(|one| number(out, one));
         }
-        Part::Client { client, number: largest } => {
+        Part::Client { client, number: largest, handed } => {
             out.push(1);
             out.extend(client.to_le_bytes());
             number(out, *largest);
-            out.push(5);
+            handed.append(out);
         }
         Part::Name { name, creations, removed, queue } => {
             out.push(2);

@@ -151,7 +151,7 @@ pub fn answer(response: &Response, request_id: String) -> Reply {
         Response::Moved(moved) => to_bytes(&CancelledMoveTask { approximate_number_of_messages_moved: *moved }),
         Response::MoveTasks(results) => to_bytes(&MoveTasks { results }),
     };
-    Reply { status: 200, content_type: CONTENT_TYPE, query_error: None, request_id, body }
+    Reply { status: 200, content_type: CONTENT_TYPE, query_error: None, request_id, needs_room: None, body }
 }
 
 fn slice(pairs: &Pairs) -> &[(String, String)] {
@@ -165,6 +165,7 @@ pub fn refuse(error: &SqsError, request_id: String) -> Reply {
         content_type: CONTENT_TYPE,
         query_error: Some(format!("{};{}", coded.code, fault(error))),
         request_id,
+        needs_room: None,
         body: to_bytes(&Refusal { type_name: coded.type_name, message: error.client_message() }),
     }
 }

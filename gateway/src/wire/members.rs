@@ -20,6 +20,11 @@ fn wrong(message: String) -> SqsError {
     SqsError::InvalidParameterValue(message)
 }
 
+/// A map in which a name stands twice.
+fn stands_twice(map: &str, name: &str) -> SqsError {
+    wrong(format!("{map} has {name} twice."))
+}
+
 /// A value of another kind than its member has.
 fn wrong_kind(message: String) -> SqsError {
     SqsError::Serialization(message)
@@ -100,7 +105,7 @@ impl<'m, 'a> Members<'m, 'a> {
         let (mut pairs, mut names) = (Vec::with_capacity(map.0.len()), HashSet::new());
         for (key, value) in &map.0 {
             if !names.insert(key) {
-                return Err(wrong(format!("{name} has {key} twice.")));
+                return Err(stands_twice(name, key));
             }
             let text = match value {
                 Value::Text(text) => text.to_string(),
@@ -129,7 +134,7 @@ impl<'m, 'a> Members<'m, 'a> {
         }
     }
 
-    /// `MessageAttributes`, each tested.
+    /// `MessageAttributes`, each tested. No name stands there twice.
     pub fn message_attributes(&self) -> Result<MessageAttributes, SqsError> {
         let mut found = MessageAttributes::new();
         let structures = self.structures("MessageAttributes")?;
@@ -141,12 +146,14 @@ impl<'m, 'a> Members<'m, 'a> {
         }
         for (name, members) in structures {
             test_attribute_name(name)?;
-            found.insert(name.into(), members.attribute_value(name)?);
+            if found.insert(name.into(), members.attribute_value(name)?).is_some() {
+                return Err(stands_twice("MessageAttributes", name));
+            }
         }
         Ok(found)
     }
 
-    /// The one message system attribute that there is.
+    /// The one message system attribute that there is, which stands there once.
     pub fn trace_header(&self) -> Result<Option<AttributeValue>, SqsError> {
         let mut trace = None;
         for (name, members) in self.structures("MessageSystemAttributes")? {
@@ -157,7 +164,9 @@ impl<'m, 'a> Members<'m, 'a> {
             if value.data_type() != "String" {
                 return Err(wrong(format!("The type of message system attribute {name} must be String.")));
             }
-            trace = Some(value);
+            if trace.replace(value).is_some() {
+                return Err(stands_twice("MessageSystemAttributes", name));
+            }
         }
         Ok(trace)
     }

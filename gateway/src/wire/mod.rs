@@ -79,6 +79,8 @@ pub struct Reply {
     /// The header `x-amzn-query-error`, which errors have in the JSON protocol.
     pub query_error: Option<String>,
     pub request_id: String,
+    /// How many bytes a front needs room for before anything is received.
+    pub needs_room: Option<usize>,
     pub body: Vec<u8>,
 }
 
@@ -108,10 +110,15 @@ impl Protocol {
 
     /// The response to a request that was refused.
     pub fn refuse(self, error: &SqsError, request_id: String) -> Reply {
-        match self {
+        let reply = match self {
             Protocol::Json => json::refuse(error, request_id),
             Protocol::Query => query::refuse(error, request_id),
-        }
+        };
+        let needs_room = match error {
+            SqsError::NeedsRoom(bytes) => Some(*bytes),
+            _ => None,
+        };
+        Reply { needs_room, ..reply }
     }
 }
 

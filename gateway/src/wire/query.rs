@@ -374,7 +374,14 @@ fn readable(character: char) -> char {
 }
 
 fn reply(status: u16, xml: Xml, request_id: String) -> Reply {
-    Reply { status, content_type: CONTENT_TYPE, query_error: None, request_id, body: xml.into_bytes() }
+    Reply {
+        status,
+        content_type: CONTENT_TYPE,
+        query_error: None,
+        request_id,
+        needs_room: None,
+        body: xml.into_bytes(),
+    }
 }
 
 fn result(xml: &mut Xml, action: Action, response: &Response) {

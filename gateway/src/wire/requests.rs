@@ -231,12 +231,13 @@ impl Request {
         }
     }
 
-    /// Whether it sends to a standard queue, where nothing but the call itself tells its repeats.
+    /// Whether nothing but the call itself tells its repeats: it sends to a standard queue, or starts a task.
     pub fn is_deduplicated_by_call(&self) -> bool {
         match self {
             Request::SendMessage { queue, .. } | Request::SendMessageBatch { queue, .. } => {
                 queue.kind() == QueueKind::Standard
             }
+            Request::StartMessageMoveTask { .. } => true,
             _ => false,
         }
     }

@@ -39,7 +39,9 @@ impl Made {
     fn take(&mut self, part: Part<'_>) {
         match part {
             Part::Start { last, .. } => self.last = last,
-            Part::Client { client, number } => drop(self.store.clients.insert(client, Last { number, reply: None })),
+            Part::Client { client, number, .. } => {
+                drop(self.store.clients.insert(client, Last { number, reply: None }))
+            }
             Part::Name { name, creations, removed, queue } => {
                 self.name = name.into();
                 let queue = queue.as_ref().map(Queue::of);

@@ -5,9 +5,15 @@ use proptest::sample::Index;
 use proptest::test_runner::TestCaseResult;
 
 use super::*;
+use crate::handles::Receipt;
+use crate::messages::{Envelope, Metadata};
+use crate::queues::book::{ProgramEntry, QueueEntry};
 use crate::queues::shards::Shards;
 use crate::seeded::check;
 use crate::store::living::{steps, told, Living, Seen, Step};
+use crate::store_bytes::written::{append, chunk};
+use crate::store_bytes::KeptHandings;
+use crate::texts::{Body, QueueName};
 
 /// The tables that are made of what was there behind a line.
 fn made_of(seen: &Seen, shards: Shards, keeps_copies: bool, parts: usize) -> Queues {
@@ -60,4 +66,48 @@ fn the_tables_of_the_bytes_at_any_moment_are_those_that_are_there() {
             compare(&living, front.index(living.lines.len() + 1), parts)
         },
     );
+}
+
+/// What attempt `x` was given, as a store tells it whose client 3 has asked last by the request 7, which handed out two messages
+/// until `until`, the second one for the time `ordinal`. A book said ahead of it by which request the attempt asks.
+fn given_by(request: (u32, u64), ordinal: u64, until: Moment) -> Option<Vec<Receipt>> {
+    let name = QueueName::parse("q.fifo").unwrap();
+    let entry = QueueEntry::plain(StoreName(5), name.clone(), 8);
+    let id = AttemptId::parse("x").unwrap();
+    let (client, number) = request;
+    let asked = AttemptRequest { mark: 8, id: id.clone(), moment: 900, client, number };
+    let program = ProgramEntry { place: 0, count: 1, secret: uuid::Uuid::nil() };
+    let entries = [Entry::Program(program), Entry::Queue(entry), Entry::Asked(asked)];
+    let (group, mut bytes, mut handed) = ("g", chunk(), Vec::new());
+    let queue = |sent| Some(QueuePart { incarnation: 1, timeout: 30, makes_ids: false, sent, uses: 9, last: 1000 });
+    let mut write = |part: &Part<'_>| append(&mut bytes, part);
+    write(&Part::Start { entries: 9, last: 1000 });
+    write(&Part::Client { client: 3, number: 7, handed: KeptHandings::written(&[(1, 1), (2, ordinal)], &mut handed) });
+    write(&Part::Name { name: "book1.fifo", creations: 1, removed: None, queue: queue(3) });
+    for (place, entry) in entries.iter().enumerate() {
+        let (sequence, body) = (place as u64 + 1, &entry.text().unwrap());
+        write(&Part::Message { sequence, group, body, handings: 0, handed: 0, until: 0 });
+    }
+    write(&Part::Name { name: "5.fifo", creations: 1, removed: None, queue: queue(3) });
+    let body = Envelope::new(&Metadata { sent: 500, ..Metadata::default() }, &Body::parse("b").unwrap()).unwrap();
+    for (sequence, handings) in [(1, 1), (2, 1), (3, 0)] {
+        let (handed, until) = if handings > 0 { (1000, until) } else { (0, 0) };
+        write(&Part::Message { sequence, group, body: body.whole(), handings, handed, until });
+    }
+    write(&Part::End);
+    let (queues, mut image) = (Queues::new(false), Image::new(false));
+    image.feed(&bytes).unwrap();
+    queues.take_up(Shards::ONE.all().next().unwrap(), image).unwrap();
+    let given = queues.find(&name).unwrap().state().attempt(&id, 1001);
+    given.map(|handed| handed.into_iter().map(|one| one.receipt).collect())
+}
+
+#[test]
+fn what_an_attempt_was_given_by_its_clients_last_request_is_known_though_no_book_says_it() {
+    let both = [1, 2].map(|sequence| Receipt { sequence, ordinal: 1 }).to_vec();
+    assert_eq!(given_by((3, 7), 1, 31_000), Some(both));
+    // It asked by another request, of this client or of another one: it was told, or the store hasn't done that.
+    assert_eq!([(3, 6), (3, 8), (4, 7)].map(|request| given_by(request, 1, 31_000)), [None, None, None]);
+    // A message was handed out again since then, or its timeout is over.
+    assert_eq!([given_by((3, 7), 2, 31_000), given_by((3, 7), 1, 1000)], [None, None]);
 }

@@ -6,6 +6,7 @@ use std::collections::{BinaryHeap, HashMap};
 use super::WINDOW;
 use crate::clock::Moment;
 use crate::queues::ask::Handed;
+use crate::queues::book::AttemptRequest;
 use crate::texts::AttemptId;
 
 /// What a receive with an attempt id was given.
@@ -33,6 +34,8 @@ pub(super) struct Attempts {
     by_id: HashMap<AttemptId, Attempt>,
     /// The attempt that a message is in, by its sequence number.
     by_message: HashMap<u64, AttemptId>,
+    /// By which requests attempts ask that may not be answered yet.
+    asked: HashMap<AttemptId, AttemptRequest>,
     /// When attempts end. One whose timeouts have changed has other entries, too.
     ends: BinaryHeap<Reverse<(Moment, AttemptId)>>,
     bytes: u64,
@@ -50,6 +53,24 @@ impl Attempts {
         self.remember_end(id, attempt.end());
         self.bytes += attempt.bytes;
         self.by_id.insert(id.clone(), attempt);
+    }
+
+    /// An attempt is about to ask by a request.
+    pub(super) fn ask(&mut self, request: &AttemptRequest) {
+        self.asked.retain(|_, earlier| request.moment < earlier.moment + WINDOW);
+        self.asked.insert(request.id.clone(), request.clone());
+    }
+
+    /// An attempt was answered.
+    pub(super) fn answer(&mut self, id: &AttemptId) {
+        self.asked.remove(id);
+    }
+
+    /// By which requests attempts ask that aren't answered, in order of their ids.
+    pub(super) fn asked(&self) -> Vec<AttemptRequest> {
+        let mut asked: Vec<_> = self.asked.values().cloned().collect();
+        asked.sort_unstable_by(|one, other| one.id.cmp(&other.id));
+        asked
     }
 
     /// A message was deleted, changed or handed out again: the attempt that it is in is over.

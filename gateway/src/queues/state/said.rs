@@ -34,8 +34,12 @@ impl State {
             TableChange::Attributes(given) => {
                 let given = entry.attributes.news_of(given);
                 if !given.is_empty() {
+                    let by_group = entry.attributes.dedups_by_group();
                     entry.attributes.set(&given);
                     entry.modified = moment;
+                    if entry.attributes.dedups_by_group() != by_group {
+                        entry.rescoped = Some(moment);
+                    }
                 }
             }
             TableChange::Tag(tags) => entry.tags.extend(tags.clone()),

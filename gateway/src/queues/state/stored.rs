@@ -1,11 +1,13 @@
 //! Takes up what the store has of a queue, as its bytes tell it.
 
 use std::collections::HashMap;
+use std::sync::atomic::{AtomicU64, Ordering};
 use std::sync::Arc;
 
 use super::attempts::Attempt;
 use super::delayed::First;
 use super::message::{Handing, Message};
+use super::recent::RecentSend;
 use super::{State, WINDOW};
 use crate::clock::Moment;
 use crate::handles::{Mark, Receipt};
@@ -16,11 +18,17 @@ use crate::moves::Origin;
 use crate::queues::ask::Handed;
 use crate::queues::book::AttemptEntry;
 use crate::queues::image::{AcceptedSend, Named, StoredMessage, StoredQueue};
-use crate::texts::{CallKey, QueueKind};
+use crate::texts::{AttemptId, CallKey, QueueKind};
 
 impl State {
-    /// Takes up the messages that the store has, whose last entry is of the moment `last`. Tells what they name.
-    pub(in crate::queues) fn take_up(&mut self, stored: StoredQueue, last: Moment, keeps_copies: bool) -> Named {
+    /// Takes up the messages that the store has, whose last entry is of the moment `last`, and counts each in `far`. Tells what they
+    /// name.
+    pub(in crate::queues) fn take_up(
+        &mut self,
+        stored: StoredQueue,
+        (last, far): (Moment, &AtomicU64),
+        keeps_copies: bool,
+    ) -> Named {
         self.last_sequence = self.entry.base + stored.sent;
         let (mut named, mut texts) = (Named::default(), HashMap::new());
         self.messages.expect(stored.messages.len());
@@ -30,11 +38,17 @@ impl State {
             let (part, origin) = self.take_up_message(message);
             named.parts.extend(part);
             named.origins.extend(origin);
+            far.fetch_add(1, Ordering::Relaxed);
         }
         self.groups = self.groups_of_delayed();
         self.take_up_older(stored.older);
         for attempt in stored.attempts {
             self.take_up_attempt(&attempt, &texts);
+        }
+        for (id, handings) in stored.untold {
+            if let Some(attempt) = self.untold_attempt(id, handings) {
+                self.take_up_attempt(&attempt, &texts);
+            }
         }
         self.take_up_sends(&stored.accepted);
         if self.kind == QueueKind::Standard && self.entry.store.main().is_none() {
@@ -55,12 +69,12 @@ impl State {
         message.ordinal = handings;
         // Of the handings the store has the last one alone.
         message.last = (handings > 0).then_some(Handing { moment: handed, first: handed, touched: false });
-        self.longest_envelope = self.longest_envelope.max(bytes);
         if let Some((group_id, envelope)) = text {
             message.bytes += (group_id.len() + envelope.len()) as u64;
             (message.group_id, message.envelope) = (Some(group_id), Some(envelope));
         }
         self.envelope_bytes += message.bytes;
+        self.sizes.add(message.bytes);
         self.messages.add(sequence, message);
         if until > 0 {
             self.messages.hide(sequence, until);
@@ -90,6 +104,28 @@ impl State {
         }
     }
 
+    /// What an attempt was given by a request that handed out these messages, if they are all in flight since then. What wasn't
+    /// for the client isn't among them: it comes back by itself.
+    fn untold_attempt(&self, id: AttemptId, handings: Vec<(u64, u64)>) -> Option<AttemptEntry> {
+        let base = self.entry.base;
+        let handed: Vec<_> = handings.into_iter().map(|(sequence, ordinal)| (base + sequence, ordinal)).collect();
+        let (moment, until) = handed.iter().find_map(|(sequence, _)| {
+            let message = self.messages.get(*sequence)?;
+            Some((message.last?.moment, message.until()))
+        })?;
+        let handed = handed.into_iter().filter(|(sequence, ordinal)| self.is_for_client(*sequence, *ordinal, moment));
+        Some(AttemptEntry { mark: self.entry.mark, id, moment, until, handed: handed.collect() })
+    }
+
+    /// Whether a message that was handed out so often by then is for clients. A jump of the clock may make it younger.
+    fn is_for_client(&self, sequence: u64, ordinal: u64, moment: Moment) -> bool {
+        let Some(message) = self.messages.get(sequence) else { return true };
+        let is_dead = self.redrive().is_some_and(|policy| ordinal > u64::from(policy.most));
+        let is_old = message.sent + self.entry.attributes.retention() <= moment;
+        let is_early = message.sent + self.delay > moment;
+        !(is_dead || is_old || is_early)
+    }
+
     /// Takes up the sends whose ids may count: the last ones.
     fn take_up_sends(&mut self, sends: &[AcceptedSend]) {
         self.last_send = sends.last().map_or(0, |last| last.moment);
@@ -97,7 +133,8 @@ impl State {
             if self.entry.base + send.sequence + 1 != self.first_recent() {
                 break;
             }
-            self.recent.push_front(send.moment);
+            let fingerprint = if self.kind == QueueKind::Fifo { send.fingerprint } else { 0 };
+            self.recent.push_front(RecentSend { moment: send.moment, fingerprint });
         }
         let recent_left = self.messages.count_from(self.first_recent());
         self.left_ids = (self.recent.len() as u64).saturating_sub(recent_left);

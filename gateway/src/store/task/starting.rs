@@ -9,12 +9,13 @@ use crate::clock::Moment;
 use crate::errors::SqsError;
 use crate::frames;
 use crate::handles::Receipt;
+use crate::limits::{GONE_NAME_BYTES, STORED_NAME_BYTES};
 use crate::lines::AskFields;
 use crate::queues::ask::{Ask, Cause, Outcome, StoreName, TableChange};
-use crate::queues::book;
+use crate::queues::book::{self, AttemptRequest};
 use crate::queues::{Queue, State};
 use crate::store::{Answer, Operation};
-use crate::texts::{QueueKind, STORE_LIMIT};
+use crate::texts::{DedupId, QueueKind, STORE_LIMIT};
 
 impl Task {
     /// Starts the operations that wait, as long as there are free clients.
@@ -77,9 +78,11 @@ impl Task {
 
     fn start_ask(&mut self, queue: Arc<Queue>, ask: Ask) -> Result<StartOutcome, Ended> {
         let ready = |answer| Ok(StartOutcome::ready(answer));
-        let (store, base, removed, ask) = {
+        let moment = self.clock.now();
+        let (store, base, removed, is_rescoped, ask) = {
             let state = queue.state();
-            (state.entry.store, state.entry.base, state.removed, with_last_receipt(ask, &state))
+            let (entry, is_rescoped) = (&state.entry, state.has_ids_of_other_scope(moment));
+            (entry.store, entry.base, state.removed, is_rescoped, with_last_receipt(ask, &state))
         };
         // The store may have it for a while.
         if removed {
@@ -88,13 +91,21 @@ impl Task {
         if let Some(answer) = answer_about_earlier(&ask, base) {
             return ready(answer);
         }
-        let moment = self.clock.now();
         let ask = match within_reach(ask, &queue, moment) {
             Ok(ask) => ask,
             Err(nothing) => return ready(Ok(nothing)),
         };
         if let Some(first) = repeated(&ask, &queue, moment) {
             return ready(Ok(first));
+        }
+        if is_rescoped {
+            let other = ask.id_of_other_scope();
+            if let Some(first) = other.as_ref().and_then(|id| queue.state().sent_with(id, moment)) {
+                return ready(Ok(first));
+            }
+            if other.is_some_and(|id| self.is_being_sent(&queue, &id)) {
+                return Ok(StartOutcome::WaitsForAnswer(queue, ask.into()));
+            }
         }
         if self.is_repeated_beside(&ask, &queue) {
             return Ok(StartOutcome::WaitsForAnswer(queue, ask.into()));
@@ -112,6 +123,10 @@ impl Task {
         }
         let ask = stamped(ask, &queue, moment);
         let written = frames::ask(&AskFields::of(store, base, &ask))?;
+        if !self.takes_names(&ask) {
+            self.counters.count_lack_of_room();
+            return ready(Err(SqsError::OverLimit("There is no room for the names of more queues.".into())));
+        }
         if !self.has_space(&ask, written.len() as u64, moment) {
             self.counters.count_lack_of_room();
             return ready(Err(refusal_for_room(true)));
@@ -123,6 +138,16 @@ impl Task {
         self.ask_admitted(queue, ask, written, moment, weight)
     }
 
+    /// Whether names of queues that are gone leave room for those of more, if this makes a queue.
+    fn takes_names(&self, ask: &Ask) -> bool {
+        if !adds(ask) || !matches!(ask, Ask::Create { .. }) {
+            return true;
+        }
+        let names = self.queues.gone_names();
+        let stored = STORED_NAME_BYTES * names.of(self.shard.place());
+        self.space.takes_names(stored) && self.admission.memory.takes_names(GONE_NAME_BYTES * names.all())
+    }
+
     /// Whether the program's file has space for so many bytes more that stay, if this adds them.
     fn has_space(&mut self, ask: &Ask, bytes: u64, now: Moment) -> bool {
         if !adds(ask) {
@@ -132,7 +157,7 @@ impl Task {
         self.space.take(bytes, || {
             // Ids that count no more are in the count until then.
             admission.look_at_ages(now);
-            queues.bytes_stored(|name| shard.has(name)) + open.iter().map(Open::bytes_added).sum::<u64>()
+            queues.bytes_stored(shard) + open.iter().map(Open::bytes_added).sum::<u64>()
         })
     }
 
@@ -144,7 +169,7 @@ impl Task {
         moment: Moment,
         weight: u64,
     ) -> Result<StartOutcome, Ended> {
-        match self.ask_free_client(queue, ask, written, moment, weight) {
+        match self.ask_free_client(queue, ask, written, moment, weight)? {
             started @ StartOutcome::Open(Entry::Ask(_)) => Ok(started),
             other => {
                 self.admission.answered(weight);
@@ -160,11 +185,18 @@ impl Task {
         written: Vec<u8>,
         moment: Moment,
         weight: u64,
-    ) -> StartOutcome {
+    ) -> Result<StartOutcome, Ended> {
         let Some(client) = self.clients.take(ask.reads_parts()) else {
-            return StartOutcome::WaitsForAnswer(queue, ask.into());
+            return Ok(StartOutcome::WaitsForAnswer(queue, ask.into()));
         };
         let number = self.next_number();
+        if let Some(id) = ask.attempt().filter(|_| self.keeps_books()) {
+            let request = AttemptRequest { mark: queue.mark.0, id: id.clone(), moment, client, number };
+            if !self.say_ahead(&queue, book::Entry::Asked(request), moment)? {
+                self.clients.give_back(client);
+                return Ok(StartOutcome::WaitsForAnswer(queue, ask.into()));
+            }
+        }
         self.open_visibility_changes += usize::from(matches!(ask, Ask::ChangeVisibility { .. }));
         let asked = OpenAsk {
             queue,
@@ -179,7 +211,26 @@ impl Task {
             original: None,
         };
         self.write(&asked);
-        StartOutcome::Open(Entry::Ask(Box::new(asked)))
+        Ok(StartOutcome::Open(Entry::Ask(Box::new(asked))))
+    }
+
+    /// Has the book say something ahead of what is asked next, where there is a book. False if no client is free for that.
+    fn say_ahead(&mut self, queue: &Arc<Queue>, entry: book::Entry, moment: Moment) -> Result<bool, Ended> {
+        let Some(book) = self.queues.books().current(self.shard.place()) else { return Ok(true) };
+        let Some(client) = self.clients.take(false) else { return Ok(false) };
+        let ask = Ask::Say { book, text: entry.text()?, entry: Arc::new(entry) };
+        let written = frames::ask(&AskFields::of(StoreName::of_book(book), 0, &ask))?;
+        let (queue, number) = (queue.clone(), self.next_number());
+        let asked =
+            OpenAsk { queue, ask, written, moment, client, number, weight: 0, ends: 0, is_done: false, original: None };
+        self.write(&asked);
+        self.open.push_back(Open { entry: Entry::Ask(Box::new(asked)), sender: None });
+        Ok(true)
+    }
+
+    /// Whether another gateway goes on with what the program keeps, once this one has ended.
+    fn keeps_books(&self) -> bool {
+        self.chain.is_some() || self.file.is_some()
     }
 
     /// Whether the same call sends its message with a delay and without, and one of both isn't answered yet. Takes time in
@@ -195,6 +246,17 @@ impl Task {
             _ => false,
         };
         dedup.call_key().is_some() && self.open.iter().any(is_same)
+    }
+
+    /// Whether a send to this queue with this id isn't answered yet. Takes time in proportion to the open requests.
+    fn is_being_sent(&self, queue: &Queue, id: &DedupId) -> bool {
+        self.open.iter().any(|open| match &open.entry {
+            Entry::Ask(asked) => match &asked.ask {
+                Ask::Send { dedup, .. } => asked.queue.mark == queue.mark && dedup == id,
+                _ => false,
+            },
+            _ => false,
+        })
     }
 
     pub(super) fn write(&mut self, asked: &OpenAsk) {
