@@ -116,12 +116,12 @@ class Etcd:
         except ConnectionError:
             return False
 
-    def range(self, prefix: str) -> list[dict[str, str]]:
+    def range(self, prefix: str, patience: float = 0.7) -> list[dict[str, str]]:
         last = prefix[:-1] + chr(ord(prefix[-1]) + 1)
-        return self.ask("/v3/kv/range", {"key": _digits(prefix), "range_end": _digits(last)}).get("kvs", [])
+        return self.ask("/v3/kv/range", {"key": _digits(prefix), "range_end": _digits(last)}, patience).get("kvs", [])
 
-    def read(self, prefix: str) -> dict[str, str]:
-        return {_text(found["key"]): _text(found.get("value", "")) for found in self.range(prefix)}
+    def read(self, prefix: str, patience: float = 0.7) -> dict[str, str]:
+        return {_text(found["key"]): _text(found.get("value", "")) for found in self.range(prefix, patience)}
 
     def rewritten(self, prefix: str) -> list[str]:
         """The keys that were written more than once."""
@@ -549,7 +549,8 @@ class Cluster:
         return self.last
 
     def log(self) -> list[dict[str, Any]]:
-        lines = self.etcd.read(f"{self.root}/master/log/")
+        """The lines of the master's log. An etcd that stands still for a moment is waited for."""
+        lines = self.etcd.read(f"{self.root}/master/log/", patience=5)
         return [json.loads(lines[key]) for key in sorted(lines)]
 
     def detected(self) -> list[int]:
