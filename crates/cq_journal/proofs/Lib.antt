@@ -8,6 +8,7 @@ mod Halves
 mod Intact
 mod Moves
 mod OtherRegions
+mod Puts
 pub mod RegionLists
 mod Refreshed
 mod Refused

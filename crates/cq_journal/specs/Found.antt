@@ -1,5 +1,5 @@
 -- What is found in two halves.
-use Rattle.std.specs.Prelude.{◌≡◌, ◌⊎◌, ℕ, ◌-◌, ◌/◌, ◌<◌, ◌≤◌, List, Option, Some, None, Vec, MatchOption, length, slice_range}
+use Rattle.std.specs.Prelude.{◌≡◌, ◌⊎◌, ℕ, ◌+◌, ◌-◌, ◌*◌, ◌/◌, ◌<◌, ◌≤◌, List, Option, Some, None, Vec, MatchOption, length, slice_range}
 use Rattle.std.specs.declared.alloc.Global.{Global}
 use Rattle.cq_journal.specs.Roots.{number_in, half_of, root_of}
 use Rattle.cq_journal.specs.declared.opening.Found.{Found}
@@ -25,11 +25,12 @@ pub record IsRootAt (half : ℕ) (seen : List ℕ) (it : Found) : Type 0 where
 abbrev pub IsFound : ℕ → List ℕ → Option Found → Type 0
 IsFound half seen found = MatchOption found (number_in (root_of half seen) ≡ 0) (λ it. IsRootAt half seen it)
 
--- The later root names the regions of the first one, in order, and so many more as its number is higher. Each place has five digits,
--- behind the five of the number.
+-- The later root names the regions of the first one, in order, and one more for each change between the two. Each place has five digits,
+-- behind the five of the number. A change takes two numbers, one for each half, of which the first root may have either, and the later one, too.
 pub record HasGrown (first later : Found) : Type 0 where
   pub places : 5 ≤ length first.bytes.items
   pub front : slice_range first.bytes.items 5 (length first.bytes.items) ≡ slice_range later.bytes.items 5 (length first.bytes.items)
   pub long : length first.bytes.items ≤ length later.bytes.items
   pub number : first.number ≤ later.number
-  pub many : (length later.bytes.items - length first.bytes.items) / 5 ≡ later.number - first.number
+  pub least : 2 * ((length later.bytes.items - length first.bytes.items) / 5) ≤ later.number - first.number + 1
+  pub most : later.number - first.number ≤ 2 * ((length later.bytes.items - length first.bytes.items) / 5) + 1

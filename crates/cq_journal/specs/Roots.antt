@@ -1,8 +1,9 @@
 -- What the two halves of a root stand for. Each has one record, or none: a number, and the root's text. The higher number counts.
-use Rattle.std.specs.Prelude.{◌≡◌, ◌≢◌, ◌⊎◌, ℕ, ◌+◌, nat_lt, true, List, [], ◌∷◌, ◌++◌, length, drop, Option, Some, None, if◌then◌else◌}
+use Rattle.std.specs.Prelude.{◌≡◌, ◌≢◌, ◌⊎◌, ℕ, ◌+◌, ◌<◌, nat_lt, true, List, [], ◌∷◌, ◌++◌, length, drop, Option, Some, None, if◌then◌else◌}
 use Rattle.cq_disk.specs.Region.{part}
 use Rattle.cq_records.specs.Frames.{frames, records, all_sound}
 use Rattle.cq_journal.specs.Numbers.{digits, number_of}
+use Rattle.cq_journal.specs.declared.number.TheConstants.{NUMBER_LIMIT}
 
 abbrev pub first_of : List (List ℕ) → Option (List ℕ)
 first_of [] = None
@@ -47,3 +48,7 @@ pub record IsOldOrNew (half : ℕ) (old new bytes : List ℕ) : Type 0 where
   pub behind : drop (half + half) bytes ≡ drop (half + half) old
   pub long : length bytes ≡ length old
   pub sound : HasSoundHalves half old → HasSoundHalves half bytes
+
+-- The old root counts, or one of this text with any number that a root can have.
+abbrev pub IsOldOrPut : ℕ → List ℕ → List ℕ → List ℕ → Type 0
+IsOldOrPut half old text bytes = (number : ℕ) × (number < NUMBER_LIMIT) × IsOldOrNew half old (numbered number text) bytes

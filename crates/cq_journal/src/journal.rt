@@ -175,7 +175,7 @@ impl<D: Device> Journal<D> {
             return Err(LogFault::Full);
         }
         self.clear_outside(place)?;
-        self.root.put(alloc, &text)?;
+        self.root.put_in_both(alloc, &text)?;
         self.closed = closed;
         self.growing = place;
         self.end = 0;

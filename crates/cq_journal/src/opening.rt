@@ -181,7 +181,8 @@ fn choose(
 }
 
 /// Whether a root that was found later names all regions that an earlier one does, first and in their order, and each change between the two
-/// named one region more: then what the earlier one names has stayed where it was. O(regions).
+/// named one region more: then what the earlier one names has stayed where it was. A change takes two numbers, and either root may be
+/// in the midst of one. O(regions).
 pub fn has_grown(first: &Found, later: &Found) -> bool
     ensures grown { result ≡ true → HasGrown first.now later.now }
     ensures not { result ≡ false → HasGrown first.now later.now → ⊥ }
@@ -190,7 +191,9 @@ pub fn has_grown(first: &Found, later: &Found) -> bool
     if front.len() < PLACES || all.len() < front.len() || later.number < first.number {
         return false;
     }
-    if ((all.len() - front.len()) / DIGITS) as u64 != later.number - first.number {
+    let changes = ((all.len() - front.len()) / DIGITS) as u64;
+    let numbers = later.number - first.number;
+    if numbers > 2 * changes + 1 || numbers < (2 * changes).saturating_sub(1) {
         return false;
     }
     are_same(&front[PLACES..front.len()], &all[PLACES..front.len()])

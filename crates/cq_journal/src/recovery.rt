@@ -167,7 +167,7 @@ impl<D: Device> Journal<D> {
             return Err(OpenFault::Full);
         }
         let end = self.copy_to(alloc, place)?;
-        self.root.put(alloc, &text)?;
+        self.root.put_in_both(alloc, &text)?;
         self.growing = place;
         self.end = end;
         Ok(())

@@ -169,7 +169,7 @@ impl<D: Device> Journal<D> {
         if !self.root.has_room(&text) {
             return Err(LogFault::Full);
         }
-        self.root.put(alloc, &text)?;
+        self.root.put_in_both(alloc, &text)?;
         self.closed = closed;
         self.growing = growing;
         self.end = end;

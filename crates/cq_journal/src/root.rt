@@ -46,7 +46,7 @@ pub(crate) fn batch_of(alloc: Global, number: u64, text: &[u8]) -> Result<Batch,
 impl<D: Device> Root<D> {
     ghost use Rattle.cq_journal.specs.Root.{root_half, root_device, root_number, IsRoot, HasRoom};
     ghost use Rattle.cq_journal.specs.Found.{IsRootAt};
-    ghost use Rattle.cq_journal.specs.Roots.{IsOldOrNew, IsSameRoot};
+    ghost use Rattle.cq_journal.specs.Roots.{IsOldOrNew, IsOldOrPut, IsSameRoot};
     ghost use Rattle.cq_journal.specs.within.Turns.{IsTurned};
 
     /// The root that `read_root` found in two halves, of which the region is the first.
@@ -110,6 +110,38 @@ impl<D: Device> Root<D> {
         self.log.commit(&batch)?;
         self.number += 1;
         Ok(())
+    }
+
+    /// Puts another text in the place of the root's, in both halves: where one of them is lost later, the other one says the same. A crash
+    /// at any moment of the call leaves the old text or the new one. `Full`: there is no room for it, and nothing was changed. After
+    /// another fault the root is to be opened anew. Where only one number is left, one half has the text.
+    pub fn put_in_both(&mut self, alloc: Global, text: &[u8]) -> Result<(), LogFault>
+        requires root { IsRoot self.old }
+        requires text { has_no_zero text.now ≡ true }
+        requires short { length text.now ≤ ROOT_TEXT_LIMIT }
+
+        ensures root { OnOk result (IsRoot self.new) }
+        ensures half { OnOk result (root_half self.new ≡ root_half self.old) }
+        ensures number { OnOk result ((root_number self.old + 1 ≤ root_number self.new) × (root_number self.new ≤ root_number self.old + 2)) }
+        ensures behind { OnOk result (drop (root_half self.old + root_half self.old) (D.seen (root_device self.new)) ≡ drop (root_half self.old + root_half self.old) (D.seen (root_device self.old))) }
+        ensures text { OnOk result (IsTrue (D.is_honest (root_device self.new)) → root_of (root_half self.new) (D.seen (root_device self.new)) ≡ Some (numbered (root_number self.new) text.now)) }
+        ensures shown { OnOk result (IsTrue (D.is_honest (root_device self.new)) → IsOldOrPut (root_half self.old) (D.seen (root_device self.old)) text.now (D.seen (root_device self.new))) }
+        ensures any_moment { IsTrue (D.is_honest (root_device self.new)) → LeavesOnly D.moment D.left_since (root_device self.old) (root_device self.new)
+            (IsOldOrPut (root_half self.old) (D.seen (root_device self.old)) text.now) }
+        ensures keeps { D.keeps (root_device self.old) (root_device self.new) }
+        ensures honest { IsTrue (D.is_honest (root_device self.new)) → IsTrue (D.is_honest (root_device self.old)) }
+        ensures full { IsErrOf result LogFault.Full → (self.new ≡ self.old) × (HasRoom self.old (length text.now) → ⊥) }
+        ensures failed { IsErrOf result LogFault.Failed → D.faults (root_device self.old) < D.faults (root_device self.new) }
+        ensures later { D.faults (root_device self.old) ≤ D.faults (root_device self.new) }
+    {
+        if !self.has_room(text) {
+            return Err(LogFault::Full);
+        }
+        self.put(alloc, text)?;
+        if !self.has_room(text) {
+            return Ok(());
+        }
+        self.put(alloc, text)
     }
 
     /// Turns to the other half, and blanks it. The root is the same.

@@ -112,3 +112,36 @@ fn damage_is_told_with_its_place(rt: HostRuntime) -> Result<(), Fail> {
     );
     Ok(())
 }
+
+/// The journal whose root has lost one of its halves: a disk gives zeros there.
+fn without_half(alloc: Global, half: usize) -> Result<Journal<Memory>, OpenFault>
+    ensures { IfOk result IsJournal }
+{
+    let journal = journal_of_two_regions(alloc)?;
+    let device = journal.into_device();
+    let mut bytes = device.bytes().to_vec(alloc)?;
+    for place in 0..LEN {
+        if let Some(byte) = bytes.get_mut(half.saturating_mul(LEN).saturating_add(place)) {
+            *byte = 0;
+        }
+    }
+    open(alloc, bytes)
+}
+
+#[test]
+fn a_root_that_lost_a_half_names_all_regions(rt: HostRuntime) -> Result<(), Fail> {
+    let alloc = rt.alloc();
+    for half in 0..2 {
+        let mut journal = without_half(alloc, half)?;
+        assert_eq!(rt; journal.region_count(), 2);
+        assert_eq!(rt;
+            read(alloc, &mut journal, 0)?.as_deref(),
+            Some(b"hiyou".as_slice())
+        );
+        assert_eq!(rt;
+            read(alloc, &mut journal, 1)?.as_deref(),
+            Some(b"!".as_slice())
+        );
+    }
+    Ok(())
+}

@@ -58,11 +58,12 @@ impl Root {
     }
 
     /// Whether it names all regions that the earlier one does, in their order, and each change between the two named one more: then what
-    /// the earlier one names has stayed where it was.
+    /// the earlier one names has stayed where it was. A change takes two numbers, and either root may be in the midst of one.
     pub fn has_grown_from(&self, earlier: &Root) -> bool {
-        let more = self.places.len().checked_sub(earlier.places.len());
-        let changes = self.number.checked_sub(earlier.number);
-        more.is_some() && more.map(|more| more as u64) == changes && self.places.starts_with(&earlier.places)
+        let changes = self.places.len().checked_sub(earlier.places.len()).map(|more| more as u64);
+        let (Some(changes), Some(numbers)) = (changes, self.number.checked_sub(earlier.number)) else { return false };
+        let fits = ((2 * changes).saturating_sub(1)..=2 * changes + 1).contains(&numbers);
+        fits && self.places.starts_with(&earlier.places)
     }
 }
 

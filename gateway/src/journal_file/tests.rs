@@ -252,7 +252,12 @@ fn a_file_that_changes_meanwhile_is_read_as_it_was_or_refused() {
     };
     let front = r#""one", "t\0w\u{1}o\n""#.to_string();
     let changed = Err("its records were written anew while it was read: read a copy of it".to_string());
-    assert_eq!(read_behind(2, &[FIRST, SECOND, THIRD]), (ALL.into(), Ok(())), "one region more, which isn't read");
+    for number in 2..5 {
+        let read = read_behind(number, &[FIRST, SECOND, THIRD]);
+        assert_eq!(read, (ALL.into(), Ok(())), "one region more, which isn't read: {number}");
+    }
+    assert_eq!(read_behind(2, &[FIRST, SECOND]), (ALL.into(), Ok(())), "the other half has it, too");
+    assert_eq!(read_behind(5, &[FIRST, SECOND, THIRD]), (front.clone(), changed.clone()), "it was changed twice");
     assert_eq!(read_behind(2, &[FIRST, THIRD]), (front.clone(), changed.clone()), "its last region lies elsewhere");
     assert_eq!(read_behind(2, &[THIRD]), (front.clone(), changed.clone()));
     assert_eq!(read_behind(4, &[FIRST, SECOND]), (front, changed), "it was changed between");

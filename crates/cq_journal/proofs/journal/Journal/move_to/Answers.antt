@@ -8,7 +8,7 @@ use Rattle.cq_records.specs.Frames.{has_no_zero}
 use Rattle.cq_records.specs.Layout.{IsLog}
 use Rattle.cq_journal.specs.declared.number.TheConstants.{NUMBER_LIMIT}
 use Rattle.cq_journal.specs.Regions.{Each, AreApart, places_text, HasRecords, records_at}
-use Rattle.cq_journal.specs.Roots.{numbered, IsOldOrNew}
+use Rattle.cq_journal.specs.Roots.{numbered, IsOldOrNew, IsOldOrPut}
 use Rattle.cq_journal.proofs.Moves.{records_moved, while_moved}
 use Rattle.cq_journal.proofs.Regions.{kept_of, each_so, each_more, each_left, no_zero_places, part_same, places_long}
 use Rattle.cq_journal.specs.Intact.{IsIntact}
@@ -20,12 +20,12 @@ pub text_of-requires-clause-closed : goal.text_of-requires-clause-closed
 text_of-requires-clause-closed g c =
     subst (λ (xs : List ℕ). Each (λ n. n < NUMBER_LIMIT) xs) (sym c.deref.ensures.value) (each_left (λ n. n < NUMBER_LIMIT) c.args.self.now.closed.items c.args.self.now.growing c.requires.regions.small)
 
-pub put-requires-clause-text : goal.put-requires-clause-text
-put-requires-clause-text g c =
+pub put_in_both-requires-clause-text : goal.put_in_both-requires-clause-text
+put_in_both-requires-clause-text g c =
     ap has_no_zero (c.deref-3.ensures.value ∙ c.in_ok-text.ensures) ∙ no_zero_places (c.deref.result.now ++ c.args.place ∷ [])
 
-pub put-requires-clause-short : goal.put-requires-clause-short
-put-requires-clause-short g c =
+pub put_in_both-requires-clause-short : goal.put_in_both-requires-clause-short
+put_in_both-requires-clause-short g c =
     let j = c.args.self.now in
     let all : List ℕ = c.deref.result.now ++ c.args.place ∷ [] in
     let places : List ℕ = j.closed.items ++ j.growing ∷ [] in
@@ -53,8 +53,8 @@ returns-then-not-has_room-clause-any_moment g c = λ honest.
     started d.moment d.left_since device P (λ f left.
     subst P (sym (q.root.durable f (g.met.D.Device.only_now device f left))) (kept_of j.root.log.device.len j.len j.root.number places (d.seen device) q.small (q.names honest)))
 
-pub returns-in_err-put-clause-any_moment : goal.returns-in_err-put-clause-any_moment
-returns-in_err-put-clause-any_moment g c = λ honest.
+pub returns-in_err-put_in_both-clause-any_moment : goal.returns-in_err-put_in_both-clause-any_moment
+returns-in_err-put_in_both-clause-any_moment g c = λ honest.
     let j = c.args.self.now in
     let q = c.requires.regions in
     let free = c.requires.free in
@@ -65,17 +65,17 @@ returns-in_err-put-clause-any_moment g c = λ honest.
     let device = j.root.log.device.device in
     let copied = c.copy_to.new.self in
     let mid = copied.root.log.device.device in
-    let fin = c.put.new.self.log.device.device in
+    let fin = c.put_in_both.new.self.log.device.device in
     let old = d.seen device in
     let ok = c.in_ok-end.ensures in
-    let honest_mid = c.put.ensures.honest honest in
+    let honest_mid = c.put_in_both.ensures.honest honest in
     let root = q.names (c.copy_to.ensures.honest honest_mid) in
     let text_is : c.deref-3.result.now ≡ places_text (ns ++ p ∷ []) = c.deref-3.ensures.value ∙ c.in_ok-text.ensures ∙ ap (λ (xs : List ℕ). places_text (xs ++ p ∷ [])) c.deref.ensures.value in
     let P : List ℕ → Type 0 = HasRecords h j.len (records_at j.len (ns ++ j.growing ∷ []) old) in
-    let second : LeavesOnly d.moment d.left_since mid fin P = weakened d.moment d.left_since mid fin _ P (c.put.ensures.any_moment honest) (λ f either.
-    while_moved h j.len j.root.number j.growing p ns old q.small q.behind q.apart root free.behind free.small free.apart (d.seen mid) ok.beside (ok.copied honest_mid) (copied.root.number + 1) f
-    (subst (λ (k : ℕ). IsOldOrNew k (d.seen mid) (numbered (copied.root.number + 1) (places_text (ns ++ p ∷ []))) f) c.copy_to.ensures.half
-    (subst (λ (text : List ℕ). IsOldOrNew copied.root.log.device.len (d.seen mid) (numbered (copied.root.number + 1) text) f) text_is either))) in
+    let second : LeavesOnly d.moment d.left_since mid fin P = weakened d.moment d.left_since mid fin _ P (c.put_in_both.ensures.any_moment honest) (λ f either.
+    while_moved h j.len j.root.number j.growing p ns old q.small q.behind q.apart root free.behind free.small free.apart (d.seen mid) ok.beside (ok.copied honest_mid) either.0 f
+    (subst (λ (k : ℕ). IsOldOrNew k (d.seen mid) (numbered either.0 (places_text (ns ++ p ∷ []))) f) c.copy_to.ensures.half
+    (subst (λ (text : List ℕ). IsOldOrNew copied.root.log.device.len (d.seen mid) (numbered either.0 text) f) text_is either.2))) in
     runs_on d.moment d.left_since device mid fin P (c.copy_to.ensures.any_moment honest_mid) second
 
 pub returns-clause-any_moment : goal.returns-clause-any_moment
@@ -90,17 +90,17 @@ returns-clause-any_moment g c = λ honest.
     let device = j.root.log.device.device in
     let copied = c.copy_to.new.self in
     let mid = copied.root.log.device.device in
-    let fin = c.put.new.self.log.device.device in
+    let fin = c.put_in_both.new.self.log.device.device in
     let old = d.seen device in
     let ok = c.in_ok-end.ensures in
-    let honest_mid = c.put.ensures.honest honest in
+    let honest_mid = c.put_in_both.ensures.honest honest in
     let root = q.names (c.copy_to.ensures.honest honest_mid) in
     let text_is : c.deref-3.result.now ≡ places_text (ns ++ p ∷ []) = c.deref-3.ensures.value ∙ c.in_ok-text.ensures ∙ ap (λ (xs : List ℕ). places_text (xs ++ p ∷ [])) c.deref.ensures.value in
     let P : List ℕ → Type 0 = HasRecords h j.len (records_at j.len (ns ++ j.growing ∷ []) old) in
-    let second : LeavesOnly d.moment d.left_since mid fin P = weakened d.moment d.left_since mid fin _ P (c.put.ensures.any_moment honest) (λ f either.
-    while_moved h j.len j.root.number j.growing p ns old q.small q.behind q.apart root free.behind free.small free.apart (d.seen mid) ok.beside (ok.copied honest_mid) (copied.root.number + 1) f
-    (subst (λ (k : ℕ). IsOldOrNew k (d.seen mid) (numbered (copied.root.number + 1) (places_text (ns ++ p ∷ []))) f) c.copy_to.ensures.half
-    (subst (λ (text : List ℕ). IsOldOrNew copied.root.log.device.len (d.seen mid) (numbered (copied.root.number + 1) text) f) text_is either))) in
+    let second : LeavesOnly d.moment d.left_since mid fin P = weakened d.moment d.left_since mid fin _ P (c.put_in_both.ensures.any_moment honest) (λ f either.
+    while_moved h j.len j.root.number j.growing p ns old q.small q.behind q.apart root free.behind free.small free.apart (d.seen mid) ok.beside (ok.copied honest_mid) either.0 f
+    (subst (λ (k : ℕ). IsOldOrNew k (d.seen mid) (numbered either.0 (places_text (ns ++ p ∷ []))) f) c.copy_to.ensures.half
+    (subst (λ (text : List ℕ). IsOldOrNew copied.root.log.device.len (d.seen mid) (numbered either.0 text) f) text_is either.2))) in
     runs_on d.moment d.left_since device mid fin P (c.copy_to.ensures.any_moment honest_mid) second
 
 pub returns-clause-records : goal.returns-clause-records
@@ -113,12 +113,12 @@ returns-clause-records g c = λ honest.
     let p = c.args.place in
     let ns : List ℕ = j.closed.items in
     let mid = d.seen c.copy_to.new.self.root.log.device.device in
-    let fin = d.seen c.put.new.self.log.device.device in
+    let fin = d.seen c.put_in_both.new.self.log.device.device in
     let old = d.seen j.root.log.device.device in
     let ok = c.in_ok-end.ensures in
-    let honest_mid = c.put.ensures.honest honest in
+    let honest_mid = c.put_in_both.ensures.honest honest in
     let root = q.names (c.copy_to.ensures.honest honest_mid) in
-    let behind : drop (h + h) fin ≡ drop (h + h) mid = subst (λ (k : ℕ). drop (k + k) fin ≡ drop (k + k) mid) c.copy_to.ensures.half c.in_ok-put.ensures.behind in
+    let behind : drop (h + h) fin ≡ drop (h + h) mid = subst (λ (k : ℕ). drop (k + k) fin ≡ drop (k + k) mid) c.copy_to.ensures.half c.in_ok-put_in_both.ensures.behind in
     let copied = c.copy_to.new.self in
     let same = c.copy_to.ensures.same in
     let now : records_at copied.len (copied.closed.items ++ p ∷ []) fin ≡ records_at j.len (ns ++ p ∷ []) fin = λ i. records_at (same.2 i) ((same.0 i).items ++ p ∷ []) fin in
@@ -139,8 +139,8 @@ returns-clause-journal g c =
     let same = c.copy_to.ensures.same in
     let half = c.copy_to.ensures.half in
     let ok = c.in_ok-end.ensures in
-    let put = c.in_ok-put.ensures in
-    let new = c.put.new.self in
+    let put = c.in_ok-put_in_both.ensures in
+    let new = c.put_in_both.new.self in
     let old = d.seen j.root.log.device.device in
     let mid = d.seen copied.root.log.device.device in
     let fin = d.seen new.log.device.device in
@@ -161,8 +161,8 @@ returns-clause-journal g c =
         apart = subst (λ (k : ℕ). Each (λ a. AreApart k a p) copied.closed.items) (sym len_is) (subst (λ (xs : List ℕ). Each (λ a. AreApart n a p) xs) (sym closed_is) (each_left (λ a. AreApart n a p) ns j.growing free.apart));
         small = subst (λ (xs : List ℕ). Each (λ a. a < NUMBER_LIMIT) (xs ++ p ∷ [])) (sym closed_is) (each_more (λ a. a < NUMBER_LIMIT) ns p (each_left (λ a. a < NUMBER_LIMIT) ns j.growing q.small) free.small);
         names = λ honest.
-            put.text honest ∙ ap (λ (text : List ℕ). Some (numbered (copied.root.number + 1) text)) text_is
-            ∙ (λ i. Some (numbered (sym put.number i) (places_text (sym closed_is i ++ p ∷ []))));
+            put.text honest ∙ ap (λ (text : List ℕ). Some (numbered new.number text)) text_is
+            ∙ (λ i. Some (numbered new.number (places_text (sym closed_is i ++ p ∷ []))));
       };
       log = subst (λ (k : ℕ). IsLog (part p k fin) c.in_ok-end.end) (sym len_is) (subst (λ (bytes : List ℕ). IsLog bytes c.in_ok-end.end) (sym (part_same h n mid fin behind p free.behind)) ok.log);
     }
@@ -178,8 +178,8 @@ returns-in_err-end-clause-intact g c =
     let j = c.args.self.now in
     outside_leaves c.args.place j c.copy_to.new.self (free_outside j c.args.place c.requires.free) c.requires.regions c.copy_to.ensures.honest c.copy_to.ensures.left
 
-pub returns-in_err-put-clause-intact : goal.returns-in_err-put-clause-intact
-returns-in_err-put-clause-intact g c = λ now i.
+pub returns-in_err-put_in_both-clause-intact : goal.returns-in_err-put_in_both-clause-intact
+returns-in_err-put_in_both-clause-intact g c = λ now i.
     let j = c.args.self.now in
     let q = c.requires.regions in
     let free = c.requires.free in
@@ -190,19 +190,18 @@ returns-in_err-put-clause-intact g c = λ now i.
     let device = j.root.log.device.device in
     let copied = c.copy_to.new.self in
     let mid = copied.root.log.device.device in
-    let fin = c.put.new.self.log.device.device in
+    let fin = c.put_in_both.new.self.log.device.device in
     let ok = c.in_ok-end.ensures in
-    let honest_mid = c.put.ensures.honest now in
+    let honest_mid = c.put_in_both.ensures.honest now in
     let at = intact_at j q (c.copy_to.ensures.honest honest_mid) i in
     let text_is : c.deref-3.result.now ≡ places_text (ns ++ p ∷ []) = c.deref-3.ensures.value ∙ c.in_ok-text.ensures ∙ ap (λ (xs : List ℕ). places_text (xs ++ p ∷ [])) c.deref.ensures.value in
-    let small : copied.root.number + 1 < NUMBER_LIMIT = omega (arith, (c.has_room.ensures.room c.if-not-has_room.false).0, c.copy_to.ensures.number) in
-    let named : (f : List ℕ) → IsOldOrNew copied.root.log.device.len (d.seen mid) (numbered (copied.root.number + 1) c.deref-3.result.now) f → IsIntact h j.len f = λ f either.
-    with_other h j.len j.root.number ns j.growing (d.seen device) at p free.behind free.small free.within free.apart (d.seen mid) ok.beside ok.log.sound (copied.root.number + 1) small f
-    (subst (λ (k : ℕ). IsOldOrNew k (d.seen mid) (numbered (copied.root.number + 1) (places_text (ns ++ p ∷ []))) f) c.copy_to.ensures.half
-    (subst (λ (text : List ℕ). IsOldOrNew copied.root.log.device.len (d.seen mid) (numbered (copied.root.number + 1) text) f) text_is either)) in
+    let named : (f : List ℕ) → IsOldOrPut copied.root.log.device.len (d.seen mid) c.deref-3.result.now f → IsIntact h j.len f = λ f either.
+    with_other h j.len j.root.number ns j.growing (d.seen device) at p free.behind free.small free.within free.apart (d.seen mid) ok.beside ok.log.sound either.0 either.1 f
+    (subst (λ (k : ℕ). IsOldOrNew k (d.seen mid) (numbered either.0 (places_text (ns ++ p ∷ []))) f) c.copy_to.ensures.half
+    (subst (λ (text : List ℕ). IsOldOrNew copied.root.log.device.len (d.seen mid) (numbered either.0 text) f) text_is either.2)) in
     let P : List ℕ → Type 0 = IsIntact h j.len in
     runs_on d.moment d.left_since device mid fin P (outside_leaves p j copied (free_outside j p free) q c.copy_to.ensures.honest c.copy_to.ensures.left honest_mid i)
-    (weakened d.moment d.left_since mid fin _ P (c.put.ensures.any_moment now) named)
+    (weakened d.moment d.left_since mid fin _ P (c.put_in_both.ensures.any_moment now) named)
 
 pub returns-clause-intact : goal.returns-clause-intact
 returns-clause-intact g c = λ now i.
@@ -216,19 +215,18 @@ returns-clause-intact g c = λ now i.
     let device = j.root.log.device.device in
     let copied = c.copy_to.new.self in
     let mid = copied.root.log.device.device in
-    let fin = c.put.new.self.log.device.device in
+    let fin = c.put_in_both.new.self.log.device.device in
     let ok = c.in_ok-end.ensures in
-    let honest_mid = c.put.ensures.honest now in
+    let honest_mid = c.put_in_both.ensures.honest now in
     let at = intact_at j q (c.copy_to.ensures.honest honest_mid) i in
     let text_is : c.deref-3.result.now ≡ places_text (ns ++ p ∷ []) = c.deref-3.ensures.value ∙ c.in_ok-text.ensures ∙ ap (λ (xs : List ℕ). places_text (xs ++ p ∷ [])) c.deref.ensures.value in
-    let small : copied.root.number + 1 < NUMBER_LIMIT = omega (arith, (c.has_room.ensures.room c.if-not-has_room.false).0, c.copy_to.ensures.number) in
-    let named : (f : List ℕ) → IsOldOrNew copied.root.log.device.len (d.seen mid) (numbered (copied.root.number + 1) c.deref-3.result.now) f → IsIntact h j.len f = λ f either.
-    with_other h j.len j.root.number ns j.growing (d.seen device) at p free.behind free.small free.within free.apart (d.seen mid) ok.beside ok.log.sound (copied.root.number + 1) small f
-    (subst (λ (k : ℕ). IsOldOrNew k (d.seen mid) (numbered (copied.root.number + 1) (places_text (ns ++ p ∷ []))) f) c.copy_to.ensures.half
-    (subst (λ (text : List ℕ). IsOldOrNew copied.root.log.device.len (d.seen mid) (numbered (copied.root.number + 1) text) f) text_is either)) in
+    let named : (f : List ℕ) → IsOldOrPut copied.root.log.device.len (d.seen mid) c.deref-3.result.now f → IsIntact h j.len f = λ f either.
+    with_other h j.len j.root.number ns j.growing (d.seen device) at p free.behind free.small free.within free.apart (d.seen mid) ok.beside ok.log.sound either.0 either.1 f
+    (subst (λ (k : ℕ). IsOldOrNew k (d.seen mid) (numbered either.0 (places_text (ns ++ p ∷ []))) f) c.copy_to.ensures.half
+    (subst (λ (text : List ℕ). IsOldOrNew copied.root.log.device.len (d.seen mid) (numbered either.0 text) f) text_is either.2)) in
     let P : List ℕ → Type 0 = IsIntact h j.len in
     runs_on d.moment d.left_since device mid fin P (outside_leaves p j copied (free_outside j p free) q c.copy_to.ensures.honest c.copy_to.ensures.left honest_mid i)
-    (weakened d.moment d.left_since mid fin _ P (c.put.ensures.any_moment now) named)
+    (weakened d.moment d.left_since mid fin _ P (c.put_in_both.ensures.any_moment now) named)
 
 pub returns-clause-stays : goal.returns-clause-stays
 returns-clause-stays g c = λ now i.
@@ -242,14 +240,13 @@ returns-clause-stays g c = λ now i.
     let device = j.root.log.device.device in
     let copied = c.copy_to.new.self in
     let mid = copied.root.log.device.device in
-    let fin = c.put.new.self.log.device.device in
+    let fin = c.put_in_both.new.self.log.device.device in
     let ok = c.in_ok-end.ensures in
-    let honest_mid = c.put.ensures.honest now in
+    let honest_mid = c.put_in_both.ensures.honest now in
     let at = intact_at j q (c.copy_to.ensures.honest honest_mid) i in
     let text_is : c.deref-3.result.now ≡ places_text (ns ++ p ∷ []) = c.deref-3.ensures.value ∙ c.in_ok-text.ensures ∙ ap (λ (xs : List ℕ). places_text (xs ++ p ∷ [])) c.deref.ensures.value in
-    let small : copied.root.number + 1 < NUMBER_LIMIT = omega (arith, (c.has_room.ensures.room c.if-not-has_room.false).0, c.copy_to.ensures.number) in
-    let named : (f : List ℕ) → IsOldOrNew copied.root.log.device.len (d.seen mid) (numbered (copied.root.number + 1) c.deref-3.result.now) f → IsIntact h j.len f = λ f either.
-    with_other h j.len j.root.number ns j.growing (d.seen device) at p free.behind free.small free.within free.apart (d.seen mid) ok.beside ok.log.sound (copied.root.number + 1) small f
-    (subst (λ (k : ℕ). IsOldOrNew k (d.seen mid) (numbered (copied.root.number + 1) (places_text (ns ++ p ∷ []))) f) c.copy_to.ensures.half
-    (subst (λ (text : List ℕ). IsOldOrNew copied.root.log.device.len (d.seen mid) (numbered (copied.root.number + 1) text) f) text_is either)) in
-    named (d.seen fin) (c.in_ok-put.ensures.shown now)
+    let named : (f : List ℕ) → IsOldOrPut copied.root.log.device.len (d.seen mid) c.deref-3.result.now f → IsIntact h j.len f = λ f either.
+    with_other h j.len j.root.number ns j.growing (d.seen device) at p free.behind free.small free.within free.apart (d.seen mid) ok.beside ok.log.sound either.0 either.1 f
+    (subst (λ (k : ℕ). IsOldOrNew k (d.seen mid) (numbered either.0 (places_text (ns ++ p ∷ []))) f) c.copy_to.ensures.half
+    (subst (λ (text : List ℕ). IsOldOrNew copied.root.log.device.len (d.seen mid) (numbered either.0 text) f) text_is either.2)) in
+    named (d.seen fin) (c.in_ok-put_in_both.ensures.shown now)

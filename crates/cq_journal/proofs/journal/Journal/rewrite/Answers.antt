@@ -7,7 +7,7 @@ use Rattle.cq_records.specs.Layout.{IsLog}
 use Rattle.cq_journal.specs.declared.number.TheConstants.{NUMBER_LIMIT}
 use Rattle.cq_journal.specs.Base.{base_places, HasEitherRecords}
 use Rattle.cq_journal.specs.Regions.{Each, AreApart, places_text, records_at}
-use Rattle.cq_journal.specs.Roots.{numbered, IsOldOrNew}
+use Rattle.cq_journal.specs.Roots.{numbered, IsOldOrNew, IsOldOrPut}
 use Rattle.cq_journal.proofs.Bases.{while_rewritten, transposed, apart_back, each_both}
 use Rattle.cq_journal.proofs.Regions.{each_left, each_so, kept_of, last_of, no_zero_places, part_same, places_long, records_same}
 use Rattle.cq_journal.specs.Intact.{IsIntact}
@@ -21,11 +21,11 @@ text_of-requires-clause-closed g c =
 pub text_of-requires-clause-growing : goal.text_of-requires-clause-growing
 text_of-requires-clause-growing g c = last_of (λ n. n < NUMBER_LIMIT) c.args.base.closed.items c.args.base.growing c.requires.base.small
 
-pub put-requires-clause-text : goal.put-requires-clause-text
-put-requires-clause-text g c = ap has_no_zero (c.deref-3.ensures.value ∙ c.in_ok-text.ensures) ∙ no_zero_places (c.deref.result.now ++ c.args.base.growing ∷ [])
+pub put_in_both-requires-clause-text : goal.put_in_both-requires-clause-text
+put_in_both-requires-clause-text g c = ap has_no_zero (c.deref-3.ensures.value ∙ c.in_ok-text.ensures) ∙ no_zero_places (c.deref.result.now ++ c.args.base.growing ∷ [])
 
-pub put-requires-clause-short : goal.put-requires-clause-short
-put-requires-clause-short g c =
+pub put_in_both-requires-clause-short : goal.put_in_both-requires-clause-short
+put_in_both-requires-clause-short g c =
     let b = c.args.base in
     let all : List ℕ = c.deref.result.now ++ b.growing ∷ [] in
     omega (arith, ap length (c.deref-3.ensures.value ∙ c.in_ok-text.ensures), places_long all, length-append c.deref.result.now (b.growing ∷ []), ap length c.deref.ensures.value, length-append b.closed.items (b.growing ∷ []), c.requires.base.few)
@@ -52,8 +52,8 @@ returns-then-not-has_room-clause-any_moment g c = λ honest.
     started d.moment d.left_since device P (λ f left.
     subst P (sym (q.regions.root.durable f (g.met.D.Device.only_now device f left))) (inl (kept_of j.root.log.device.len j.len j.root.number places (d.seen device) q.regions.small (q.regions.names honest))))
 
-pub returns-in_err-put-clause-any_moment : goal.returns-in_err-put-clause-any_moment
-returns-in_err-put-clause-any_moment g c = λ honest.
+pub returns-in_err-put_in_both-clause-any_moment : goal.returns-in_err-put_in_both-clause-any_moment
+returns-in_err-put_in_both-clause-any_moment g c = λ honest.
     let j = c.args.self.now in
     let b = c.args.base in
     let q = c.requires.journal.regions in
@@ -65,9 +65,9 @@ returns-in_err-put-clause-any_moment g c = λ honest.
     let ns : List ℕ = j.closed.items ++ j.growing ∷ [] in
     let bs : List ℕ = base_places b in
     let text_is : c.deref-3.result.now ≡ places_text bs = c.deref-3.ensures.value ∙ c.in_ok-text.ensures ∙ ap (λ (xs : List ℕ). places_text (xs ++ b.growing ∷ [])) c.deref.ensures.value in
-    weakened d.moment d.left_since device c.put.new.self.log.device.device _ (HasEitherRecords h j.len (records_at j.len ns old) (records_at j.len bs old)) (c.put.ensures.any_moment honest) (λ f either.
-    while_rewritten h j.len n (n + 1) ns bs old q.small c.requires.base.small q.behind c.requires.base.behind (q.names (c.put.ensures.honest honest)) f
-    (subst (λ (text : List ℕ). IsOldOrNew h old (numbered (n + 1) text) f) text_is either))
+    weakened d.moment d.left_since device c.put_in_both.new.self.log.device.device _ (HasEitherRecords h j.len (records_at j.len ns old) (records_at j.len bs old)) (c.put_in_both.ensures.any_moment honest) (λ f either.
+    while_rewritten h j.len n either.0 ns bs old q.small c.requires.base.small q.behind c.requires.base.behind (q.names (c.put_in_both.ensures.honest honest)) f
+    (subst (λ (text : List ℕ). IsOldOrNew h old (numbered either.0 text) f) text_is either.2))
 
 pub returns-clause-any_moment : goal.returns-clause-any_moment
 returns-clause-any_moment g c = λ honest.
@@ -82,14 +82,14 @@ returns-clause-any_moment g c = λ honest.
     let ns : List ℕ = j.closed.items ++ j.growing ∷ [] in
     let bs : List ℕ = base_places b in
     let text_is : c.deref-3.result.now ≡ places_text bs = c.deref-3.ensures.value ∙ c.in_ok-text.ensures ∙ ap (λ (xs : List ℕ). places_text (xs ++ b.growing ∷ [])) c.deref.ensures.value in
-    weakened d.moment d.left_since device c.put.new.self.log.device.device _ (HasEitherRecords h j.len (records_at j.len ns old) (records_at j.len bs old)) (c.put.ensures.any_moment honest) (λ f either.
-    while_rewritten h j.len n (n + 1) ns bs old q.small c.requires.base.small q.behind c.requires.base.behind (q.names (c.put.ensures.honest honest)) f
-    (subst (λ (text : List ℕ). IsOldOrNew h old (numbered (n + 1) text) f) text_is either))
+    weakened d.moment d.left_since device c.put_in_both.new.self.log.device.device _ (HasEitherRecords h j.len (records_at j.len ns old) (records_at j.len bs old)) (c.put_in_both.ensures.any_moment honest) (λ f either.
+    while_rewritten h j.len n either.0 ns bs old q.small c.requires.base.small q.behind c.requires.base.behind (q.names (c.put_in_both.ensures.honest honest)) f
+    (subst (λ (text : List ℕ). IsOldOrNew h old (numbered either.0 text) f) text_is either.2))
 
 pub returns-clause-rewritten : goal.returns-clause-rewritten
 returns-clause-rewritten g c =
     let j = c.args.self.now in
-    records_same j.root.log.device.len j.len (g.D.Device.seen j.root.log.device.device) (g.D.Device.seen c.put.new.self.log.device.device) c.in_ok-put.ensures.behind (base_places c.args.base) c.requires.base.behind
+    records_same j.root.log.device.len j.len (g.D.Device.seen j.root.log.device.device) (g.D.Device.seen c.put_in_both.new.self.log.device.device) c.in_ok-put_in_both.ensures.behind (base_places c.args.base) c.requires.base.behind
 
 pub returns-clause-journal : goal.returns-clause-journal
 returns-clause-journal g c =
@@ -98,11 +98,11 @@ returns-clause-journal g c =
     let q = c.requires.journal.regions in
     let base = c.requires.base in
     let d = g.D.Device in
-    let put = c.in_ok-put.ensures in
+    let put = c.in_ok-put_in_both.ensures in
     let h = j.root.log.device.len in
     let n = j.len in
     let bs : List ℕ = base_places b in
-    let new = c.put.new.self in
+    let new = c.put_in_both.new.self in
     let old = d.seen j.root.log.device.device in
     let fin = d.seen new.log.device.device in
     let text_is : c.deref-3.result.now ≡ places_text bs = c.deref-3.ensures.value ∙ c.in_ok-text.ensures ∙ ap (λ (xs : List ℕ). places_text (xs ++ b.growing ∷ [])) c.deref.ensures.value in
@@ -115,7 +115,7 @@ returns-clause-journal g c =
         apart = base.alone;
         small = base.small;
         names = λ honest.
-            put.text honest ∙ ap (λ (text : List ℕ). Some (numbered (j.root.number + 1) text)) text_is ∙ (λ i. Some (numbered (sym put.number i) (places_text bs)));
+            put.text honest ∙ ap (λ (text : List ℕ). Some (numbered new.number text)) text_is;
       };
       log = subst (λ (bytes : List ℕ). IsLog bytes b.end) (sym (part_same h n old fin put.behind b.growing (last_of (λ a. h + h ≤ a) b.closed.items b.growing base.behind))) base.log;
     }
@@ -127,12 +127,12 @@ returns-clause-freed g c =
     let q = c.requires.journal.regions in
     let base = c.requires.base in
     let d = g.D.Device in
-    let put = c.in_ok-put.ensures in
+    let put = c.in_ok-put_in_both.ensures in
     let h = j.root.log.device.len in
     let n = j.len in
     let ns : List ℕ = j.closed.items ++ j.growing ∷ [] in
     let bs : List ℕ = base_places b in
-    let new = c.put.new.self in
+    let new = c.put_in_both.new.self in
     let old = d.seen j.root.log.device.device in
     let fin = d.seen new.log.device.device in
     let long : length fin ≡ length old = omega (arith, ap length put.behind, length-drop (h + h) fin, length-drop (h + h) old, q.root.room, put.root.room, put.half) in
@@ -155,8 +155,8 @@ returns-in_err-text-clause-intact g c = rests_intact c.args.self.now (λ f. g.me
 pub returns-then-not-has_room-clause-intact : goal.returns-then-not-has_room-clause-intact
 returns-then-not-has_room-clause-intact g c = rests_intact c.args.self.now (λ f. g.met.D.Device.only_now c.args.self.now.root.log.device.device f) c.requires.journal.regions
 
-pub returns-in_err-put-clause-intact : goal.returns-in_err-put-clause-intact
-returns-in_err-put-clause-intact g c = λ now i.
+pub returns-in_err-put_in_both-clause-intact : goal.returns-in_err-put_in_both-clause-intact
+returns-in_err-put_in_both-clause-intact g c = λ now i.
     let j = c.args.self.now in
     let b = c.args.base in
     let q = c.requires.journal.regions in
@@ -167,12 +167,12 @@ returns-in_err-put-clause-intact g c = λ now i.
     let device = j.root.log.device.device in
     let old = d.seen device in
     let bs : List ℕ = base_places b in
-    let at = intact_at j q (c.put.ensures.honest now) i in
+    let at = intact_at j q (c.put_in_both.ensures.honest now) i in
     let text_is : c.deref-3.result.now ≡ places_text bs = c.deref-3.ensures.value ∙ c.in_ok-text.ensures ∙ ap (λ (xs : List ℕ). places_text (xs ++ b.growing ∷ [])) c.deref.ensures.value in
-    let named : (f : List ℕ) → IsOldOrNew h old (numbered (n + 1) c.deref-3.result.now) f → IsIntact h j.len f = λ f either.
-    named_intact h j.len n j.closed.items j.growing old at (n + 1) b.closed.items b.growing (c.has_room.ensures.room c.if-not-has_room.false).0 base.small base.behind base.within base.alone base.sound f
-    (subst (λ (text : List ℕ). IsOldOrNew h old (numbered (n + 1) text) f) text_is either) in
-    weakened d.moment d.left_since device c.put.new.self.log.device.device _ (IsIntact h j.len) (c.put.ensures.any_moment now) named
+    let named : (f : List ℕ) → IsOldOrPut h old c.deref-3.result.now f → IsIntact h j.len f = λ f either.
+    named_intact h j.len n j.closed.items j.growing old at either.0 b.closed.items b.growing either.1 base.small base.behind base.within base.alone base.sound f
+    (subst (λ (text : List ℕ). IsOldOrNew h old (numbered either.0 text) f) text_is either.2) in
+    weakened d.moment d.left_since device c.put_in_both.new.self.log.device.device _ (IsIntact h j.len) (c.put_in_both.ensures.any_moment now) named
 
 pub returns-clause-intact : goal.returns-clause-intact
 returns-clause-intact g c = λ now i.
@@ -186,12 +186,12 @@ returns-clause-intact g c = λ now i.
     let device = j.root.log.device.device in
     let old = d.seen device in
     let bs : List ℕ = base_places b in
-    let at = intact_at j q (c.put.ensures.honest now) i in
+    let at = intact_at j q (c.put_in_both.ensures.honest now) i in
     let text_is : c.deref-3.result.now ≡ places_text bs = c.deref-3.ensures.value ∙ c.in_ok-text.ensures ∙ ap (λ (xs : List ℕ). places_text (xs ++ b.growing ∷ [])) c.deref.ensures.value in
-    let named : (f : List ℕ) → IsOldOrNew h old (numbered (n + 1) c.deref-3.result.now) f → IsIntact h j.len f = λ f either.
-    named_intact h j.len n j.closed.items j.growing old at (n + 1) b.closed.items b.growing (c.has_room.ensures.room c.if-not-has_room.false).0 base.small base.behind base.within base.alone base.sound f
-    (subst (λ (text : List ℕ). IsOldOrNew h old (numbered (n + 1) text) f) text_is either) in
-    weakened d.moment d.left_since device c.put.new.self.log.device.device _ (IsIntact h j.len) (c.put.ensures.any_moment now) named
+    let named : (f : List ℕ) → IsOldOrPut h old c.deref-3.result.now f → IsIntact h j.len f = λ f either.
+    named_intact h j.len n j.closed.items j.growing old at either.0 b.closed.items b.growing either.1 base.small base.behind base.within base.alone base.sound f
+    (subst (λ (text : List ℕ). IsOldOrNew h old (numbered either.0 text) f) text_is either.2) in
+    weakened d.moment d.left_since device c.put_in_both.new.self.log.device.device _ (IsIntact h j.len) (c.put_in_both.ensures.any_moment now) named
 
 pub returns-clause-stays : goal.returns-clause-stays
 returns-clause-stays g c = λ now i.
@@ -205,9 +205,9 @@ returns-clause-stays g c = λ now i.
     let device = j.root.log.device.device in
     let old = d.seen device in
     let bs : List ℕ = base_places b in
-    let at = intact_at j q (c.put.ensures.honest now) i in
+    let at = intact_at j q (c.put_in_both.ensures.honest now) i in
     let text_is : c.deref-3.result.now ≡ places_text bs = c.deref-3.ensures.value ∙ c.in_ok-text.ensures ∙ ap (λ (xs : List ℕ). places_text (xs ++ b.growing ∷ [])) c.deref.ensures.value in
-    let named : (f : List ℕ) → IsOldOrNew h old (numbered (n + 1) c.deref-3.result.now) f → IsIntact h j.len f = λ f either.
-    named_intact h j.len n j.closed.items j.growing old at (n + 1) b.closed.items b.growing (c.has_room.ensures.room c.if-not-has_room.false).0 base.small base.behind base.within base.alone base.sound f
-    (subst (λ (text : List ℕ). IsOldOrNew h old (numbered (n + 1) text) f) text_is either) in
-    named (d.seen c.put.new.self.log.device.device) (c.in_ok-put.ensures.shown now)
+    let named : (f : List ℕ) → IsOldOrPut h old c.deref-3.result.now f → IsIntact h j.len f = λ f either.
+    named_intact h j.len n j.closed.items j.growing old at either.0 b.closed.items b.growing either.1 base.small base.behind base.within base.alone base.sound f
+    (subst (λ (text : List ℕ). IsOldOrNew h old (numbered either.0 text) f) text_is either.2) in
+    named (d.seen c.put_in_both.new.self.log.device.device) (c.in_ok-put_in_both.ensures.shown now)
