@@ -11,10 +11,10 @@ use Rattle.cq_journal.specs.declared.journal.TheConstants.{REGION_LIMIT}
 use Rattle.cq_journal.specs.declared.number.TheConstants.{NUMBER_LIMIT}
 use Rattle.cq_journal.specs.Base.{IsBase, base_places, base_records, HasEitherRecords}
 use Rattle.cq_journal.specs.Journal.{journal_device, journal_half, journal_places, IsFree}
-use Rattle.cq_journal.specs.Regions.{Each, AreApart, AreSound, places_text, records_at}
+use Rattle.cq_journal.specs.Regions.{Each, AreApart, AreSound, AreClosed, places_text, records_at}
 use Rattle.cq_journal.specs.Roots.{root_of, numbered, IsOldOrNew}
 use Rattle.cq_journal.specs.within.Outside.{IsOutside, ChangesOutside}
-use Rattle.cq_journal.proofs.Regions.{each_more, each_so, kept_of, last_of, part_apart, records_apart, records_kept, records_more, records_same, sound_apart}
+use Rattle.cq_journal.proofs.Regions.{closed_apart, each_left, each_more, each_so, kept_of, last_of, part_apart, records_apart, records_kept, records_more, records_same, sound_apart}
 
 -- a free region can be written
 pub free_outside : {D : Type 0} {g : Ghosts D} (j : Journal D g) (p : ℕ) → IsFree j p → IsOutside j p
@@ -45,8 +45,8 @@ module _ {D : Type 0} {g : Ghosts D} (p : ℕ) (old new : Journal D g) (changes 
 
     pub base_made : Each (λ n. journal_half old + journal_half old ≤ n) (ns ++ p ∷ []) → Each (λ n. n + old.len ≤ length old_bytes) (ns ++ p ∷ []) → Each (λ n. n < NUMBER_LIMIT) (ns ++ p ∷ [])
         → Each (λ n. Each (λ m. AreApart old.len m n) (journal_places old)) (ns ++ p ∷ []) → Each (λ n. AreApart old.len n p) ns → length (ns ++ p ∷ []) < REGION_LIMIT
-        → AreSound old.len ns old_bytes → IsLog (part p old.len new_bytes) b.end → IsBase new b
-    base_made behind within small apart alone few sound log = record {
+        → AreSound old.len ns old_bytes → AreClosed old.len ns old_bytes → IsLog (part p old.len new_bytes) b.end → IsBase new b
+    base_made behind within small apart alone few sound closed log = record {
       behind = subst (λ (xs : List ℕ). Each (λ n. journal_half new + journal_half new ≤ n) xs) (sym places_are) (subst (λ (k : ℕ). Each (λ n. k + k ≤ n) (ns ++ p ∷ [])) (sym changes.half) behind);
       within = subst (λ (xs : List ℕ). Each (λ n. n + new.len ≤ length new_bytes) xs) (sym places_are)
           (subst (λ (k : ℕ). Each (λ n. n + k ≤ length new_bytes) (ns ++ p ∷ [])) (sym changes.len) (subst (λ (k : ℕ). Each (λ n. n + old.len ≤ k) (ns ++ p ∷ [])) (sym changes.length) within));
@@ -60,6 +60,8 @@ module _ {D : Type 0} {g : Ghosts D} (p : ℕ) (old new : Journal D g) (changes 
       sound = subst (λ (k : ℕ). AreSound k (base_places b) new_bytes) (sym changes.len)
           (subst (λ (xs : List ℕ). AreSound old.len xs new_bytes) (sym places_are)
           (each_more (λ n. all_sound (frames (part n old.len new_bytes)) ≡ true) ns p (sound_apart old.len p ns old_bytes new_bytes alone changes.beside sound) log.sound));
+      closed_logs = subst (λ (k : ℕ). AreClosed k b.closed.items new_bytes) (sym changes.len)
+          (subst (λ (xs : List ℕ). AreClosed old.len xs new_bytes) (sym closed_is) (closed_apart old.len p ns old_bytes new_bytes alone changes.beside closed));
       log = subst (λ (k : ℕ). IsLog (part b.growing k new_bytes) b.end) (sym changes.len) (subst (λ (gr : ℕ). IsLog (part gr old.len new_bytes) b.end) (sym growing_is) log);
     }
 
@@ -119,6 +121,8 @@ module _ {D : Type 0} {g : Ghosts D} (p : ℕ) (old new : Journal D g) (places :
     alone = subst (λ (k : ℕ). Each (λ n. AreApart k n b.growing) b.closed.items) (sym len) is.alone;
     few = is.few;
     sound = subst (λ (k : ℕ). AreSound k (base_places b) (g.seen (journal_device new))) (sym len) (sound_apart old.len p (base_places b) (g.seen (journal_device old)) (g.seen (journal_device new)) apart beside is.sound);
+    closed_logs = subst (λ (k : ℕ). AreClosed k b.closed.items (g.seen (journal_device new))) (sym len)
+        (closed_apart old.len p b.closed.items (g.seen (journal_device old)) (g.seen (journal_device new)) (each_left (λ n. AreApart old.len n p) b.closed.items b.growing apart) beside is.closed_logs);
     log = subst (λ (bytes : List ℕ). IsLog bytes b.end) (sym part_still) is.log;
   }
 

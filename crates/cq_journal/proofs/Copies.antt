@@ -11,7 +11,7 @@ use Rattle.cq_journal.specs.declared.journal.Journal.{Journal}
 use Rattle.cq_journal.specs.declared.number.TheConstants.{NUMBER_LIMIT}
 use Rattle.cq_journal.specs.Base.{HasEitherRecords}
 use Rattle.cq_journal.specs.Intact.{IsIntact}
-use Rattle.cq_journal.specs.Journal.{journal_device, journal_half, journal_places, journal_records, region_len, HasRegions, IsJournal, StaysJournal}
+use Rattle.cq_journal.specs.Journal.{journal_device, journal_half, journal_places, journal_records, region_len, HasRegions, StaysJournal}
 use Rattle.cq_journal.specs.Regions.{Each, AreApart, HasRecords, kept, places_text, records_at}
 use Rattle.cq_journal.specs.Rests.{Rests}
 use Rattle.cq_journal.specs.Root.{IsRoot, root_number}

@@ -38,6 +38,7 @@ intact bytes root long one zero first second region = (
     apart = tt;
     halves = record { differ = λ same. omega (arith, one, zero, same); first = first; second = second };
     regions = (region, tt);
+    closed_logs = tt;
   },
 )
 

@@ -5,18 +5,19 @@ use Rattle.cq_disk.specs.Device.{LeavesOnly}
 use Rattle.cq_disk.specs.Region.{part, Beside}
 use Rattle.cq_disk.specs.declared.device.Device.{Ghosts}
 use Rattle.cq_disk.proofs.Moments.{started, runs_on, weakened}
-use Rattle.cq_records.specs.Frames.{frames, records, all_sound}
+use Rattle.cq_records.specs.Frames.{frames, is_closed, records, all_sound}
 use Rattle.cq_journal.specs.declared.journal.Journal.{Journal}
 use Rattle.cq_journal.specs.declared.number.TheConstants.{NUMBER_LIMIT}
 use Rattle.cq_journal.specs.Intact.{IsIntactAt, IsIntact, LeavesIntact, StaysIntact}
 use Rattle.cq_journal.specs.Journal.{journal_device, journal_half, journal_places, region_len, HasRegions}
-use Rattle.cq_journal.specs.Regions.{Each, AreApart, AreSound, places_text, places_in}
+use Rattle.cq_journal.specs.Regions.{Each, AreApart, AreSound, AreClosed, places_text, places_in}
 use Rattle.cq_journal.specs.Root.{root_number}
 use Rattle.cq_journal.specs.Roots.{first_of, number_in, half_of, root_of, numbered, HasSoundHalves, IsOldOrNew}
 use Rattle.cq_journal.specs.within.Outside.{IsOutside}
 use Rattle.cq_journal.proofs.Halves.{number_back, root_is}
 use Rattle.cq_journal.proofs.Moves.{blank_frames}
-use Rattle.cq_journal.proofs.Regions.{each_more, each_left, last_of, part_before, part_same, places_back, root_apart, sound_apart}
+use Rattle.cq_journal.proofs.RegionLists.{snoc_same}
+use Rattle.cq_journal.proofs.Regions.{closed_apart, each_more, each_left, last_of, part_before, part_same, places_back, root_apart, sound_apart}
 
 -- ---- one root names one row of regions
 
@@ -56,6 +57,10 @@ sound_behind : (h len : ℕ) (ms old c : List ℕ) → drop (h + h) c ≡ drop (
 sound_behind h len [] old c same low sound = tt
 sound_behind h len (m ∷ ms) old c same low sound = (ap (λ (l : List ℕ). all_sound (frames l)) (part_same h len old c same m low.0) ∙ sound.0, sound_behind h len ms old c same low.1 sound.1)
 
+closed_behind : (h len : ℕ) (ms old c : List ℕ) → drop (h + h) c ≡ drop (h + h) old → Each (λ m. h + h ≤ m) ms → AreClosed len ms old → AreClosed len ms c
+closed_behind h len [] old c same low closed = tt
+closed_behind h len (m ∷ ms) old c same low closed = (ap is_closed (part_same h len old c same m low.0) ∙ closed.0, closed_behind h len ms old c same low.1 closed.1)
+
 pub sound_blank : (len : ℕ) (bytes : List ℕ) → bytes ≡ replicate len 0 → all_sound (frames bytes) ≡ true
 sound_blank len bytes zeros = ap all_sound (blank_frames len bytes zeros)
 
@@ -74,6 +79,7 @@ module _ (h len n : ℕ) (ns : List ℕ) (g : ℕ) (old : List ℕ) (i : IsIntac
     apart = i.apart;
     halves = halves_apart h len p old c low_p beside i.halves;
     regions = sound_apart len p (ns ++ g ∷ []) old c apart beside i.regions;
+    closed_logs = closed_apart len p ns old c (each_left (λ m. AreApart len m p) ns g apart) beside i.closed_logs;
   }
 
   -- the region changes that grows, and is sound
@@ -88,12 +94,13 @@ module _ (h len n : ℕ) (ns : List ℕ) (g : ℕ) (old : List ℕ) (i : IsIntac
     halves = halves_apart h len g old c low beside i.halves;
     regions = each_more (λ m. all_sound (frames (part m len c)) ≡ true) ns g
         (sound_apart len g ns old c i.apart beside (each_left (λ m. all_sound (frames (part m len old)) ≡ true) ns g i.regions)) sound;
+    closed_logs = closed_apart len g ns old c i.apart beside i.closed_logs;
   }
 
   -- the root comes to name other regions, which are sound
   pub named_intact : (m : ℕ) (cs : List ℕ) (p : ℕ) → m < NUMBER_LIMIT → Each (λ k. k < NUMBER_LIMIT) (cs ++ p ∷ []) → Each (λ k. h + h ≤ k) (cs ++ p ∷ []) → Each (λ k. k + len ≤ length old) (cs ++ p ∷ [])
-      → Each (λ k. AreApart len k p) cs → AreSound len (cs ++ p ∷ []) old → (c : List ℕ) → IsOldOrNew h old (numbered m (places_text (cs ++ p ∷ []))) c → IsIntact h len c
-  named_intact m cs p small_m small behind within apart sound c either = ⊎_elim as_old as_new either.root
+      → Each (λ k. AreApart len k p) cs → AreSound len (cs ++ p ∷ []) old → AreClosed len cs old → (c : List ℕ) → IsOldOrNew h old (numbered m (places_text (cs ++ p ∷ []))) c → IsIntact h len c
+  named_intact m cs p small_m small behind within apart sound closed c either = ⊎_elim as_old as_new either.root
     where
       as_old : root_of h c ≡ root_of h old → IsIntact h len c
       as_old is = (
@@ -109,6 +116,7 @@ module _ (h len n : ℕ) (ns : List ℕ) (g : ℕ) (old : List ℕ) (i : IsIntac
           apart = i.apart;
           halves = either.sound i.halves;
           regions = sound_behind h len (ns ++ g ∷ []) old c either.behind i.behind i.regions;
+          closed_logs = closed_behind h len ns old c either.behind (each_left (λ k. h + h ≤ k) ns g i.behind) i.closed_logs;
         },
       )
 
@@ -126,32 +134,34 @@ module _ (h len n : ℕ) (ns : List ℕ) (g : ℕ) (old : List ℕ) (i : IsIntac
           apart = apart;
           halves = either.sound i.halves;
           regions = sound_behind h len (cs ++ p ∷ []) old c either.behind behind sound;
+          closed_logs = closed_behind h len cs old c either.behind (each_left (λ k. h + h ≤ k) cs p behind) closed;
         },
       )
 
 module _ (h len n : ℕ) (ns : List ℕ) (g : ℕ) (old : List ℕ) (i : IsIntactAt h len n ns g old) where
   -- It comes to name some of its regions and one that was free, which is sound.
   module _ (p : ℕ) (low_p : h + h ≤ p) (small_p : p < NUMBER_LIMIT) (within_p : p + len ≤ length old) (free : Each (λ m. AreApart len m p) (ns ++ g ∷ [])) (mid : List ℕ) (beside : Beside p len old mid) (sound : all_sound (frames (part p len mid)) ≡ true) where
-    pub with_free : (m : ℕ) (cs : List ℕ) → m < NUMBER_LIMIT → Each (λ k. k < NUMBER_LIMIT) cs → Each (λ k. h + h ≤ k) cs → Each (λ k. k + len ≤ length old) cs → Each (λ k. AreApart len k p) cs → AreSound len cs old
+    pub with_free : (m : ℕ) (cs : List ℕ) → m < NUMBER_LIMIT → Each (λ k. k < NUMBER_LIMIT) cs → Each (λ k. h + h ≤ k) cs → Each (λ k. k + len ≤ length old) cs → Each (λ k. AreApart len k p) cs → AreSound len cs old → AreClosed len cs old
         → (c : List ℕ) → IsOldOrNew h mid (numbered m (places_text (cs ++ p ∷ []))) c → IsIntact h len c
-    with_free m cs small_m small behind within apart sound_cs c either =
+    with_free m cs small_m small behind within apart sound_cs closed_cs c either =
         named_intact h len n ns g mid (beside_intact h len n ns g old i p low_p free mid beside) m cs p small_m
         (each_more (λ k. k < NUMBER_LIMIT) cs p small small_p)
         (each_more (λ k. h + h ≤ k) cs p behind low_p)
         (long_within len (cs ++ p ∷ []) old mid beside.long (each_more (λ k. k + len ≤ length old) cs p within within_p))
         apart
         (each_more (λ k. all_sound (frames (part k len mid)) ≡ true) cs p (sound_apart len p cs old mid apart beside sound_cs) sound)
+        (closed_apart len p cs old mid apart beside closed_cs)
         c either
 
-    -- all of them
-    pub with_next : (m : ℕ) → m < NUMBER_LIMIT → (c : List ℕ) → IsOldOrNew h mid (numbered m (places_text ((ns ++ g ∷ []) ++ p ∷ []))) c → IsIntact h len c
-    with_next m small_m c either = with_free m (ns ++ g ∷ []) small_m i.small i.behind i.within free i.regions c either
+    -- all of them, where the last one has nothing but zeros behind its records
+    pub with_next : is_closed (part g len old) ≡ true → (m : ℕ) → m < NUMBER_LIMIT → (c : List ℕ) → IsOldOrNew h mid (numbered m (places_text ((ns ++ g ∷ []) ++ p ∷ []))) c → IsIntact h len c
+    with_next last m small_m c either = with_free m (ns ++ g ∷ []) small_m i.small i.behind i.within free i.regions (each_more (λ k. is_closed (part k len old) ≡ true) ns g i.closed_logs last) c either
 
     -- all but the last
     pub with_other : (m : ℕ) → m < NUMBER_LIMIT → (c : List ℕ) → IsOldOrNew h mid (numbered m (places_text (ns ++ p ∷ []))) c → IsIntact h len c
     with_other m small_m c either =
         with_free m ns small_m (each_left (λ k. k < NUMBER_LIMIT) ns g i.small) (each_left (λ k. h + h ≤ k) ns g i.behind) (each_left (λ k. k + len ≤ length old) ns g i.within)
-        (each_left (λ k. AreApart len k p) ns g free) (each_left (λ k. all_sound (frames (part k len old)) ≡ true) ns g i.regions) c either
+        (each_left (λ k. AreApart len k p) ns g free) (each_left (λ k. all_sound (frames (part k len old)) ≡ true) ns g i.regions) i.closed_logs c either
 
 pub at_lengths : (h h' l l' : ℕ) (c : List ℕ) → h' ≡ h → l' ≡ l → IsIntact h' l' c → IsIntact h l c
 at_lengths h h' l l' c half len i = subst (λ (k : ℕ). IsIntact k l c) half (subst (λ (k : ℕ). IsIntact h' k c) len i)
@@ -170,7 +180,8 @@ module _ {D : Type 0} {g : Ghosts D} where
     within = q.within;
     apart = q.apart;
     halves = it.halves;
-    regions = subst (λ (ns : List ℕ). AreSound j.len ns seen) (same_places i.0 j.root.number (i.1 ++ i.2 ∷ []) (journal_places j) it.small q.small (sym it.names ∙ q.names honest)) it.regions;
+    regions = subst (λ (ns : List ℕ). AreSound j.len ns seen) same it.regions;
+    closed_logs = subst (λ (ns : List ℕ). AreClosed j.len ns seen) (snoc_same i.1 j.closed.items i.2 j.growing same).0 it.closed_logs;
   }
     where
       it : IsIntactAt (journal_half j) (region_len j) i.0 i.1 i.2 (g.seen (journal_device j))
@@ -178,6 +189,9 @@ module _ {D : Type 0} {g : Ghosts D} where
 
       seen : List ℕ
       seen = g.seen (journal_device j)
+
+      same : i.1 ++ i.2 ∷ [] ≡ journal_places j
+      same = same_places i.0 j.root.number (i.1 ++ i.2 ∷ []) (journal_places j) it.small q.small (sym it.names ∙ q.names honest)
 
       number_is : i.0 ≡ j.root.number
       number_is =

@@ -1,8 +1,9 @@
 -- The records of the region that grows are written into a free one, and the root names that in its place.
-use Rattle.std.proofs.Common.{◌≡◌, ⊎_elim, ℕ, ◌+◌, ◌<◌, ◌≤◌, List, [], ◌∷◌, ◌++◌, length, drop, sym, ◌∙◌, ap}
+use Rattle.std.proofs.Common.{◌≡◌, ⊎_elim, ℕ, zero, suc, ◌+◌, ◌<◌, ◌≤◌, true, List, [], ◌∷◌, ◌++◌, length, drop, refl, sym, ◌∙◌, ap}
 use Rattle.std.specs.Prelude.{replicate, Some}
 use Rattle.cq_disk.specs.Region.{part, Beside}
-use Rattle.cq_records.specs.Frames.{frames, records, joined, all_sound}
+use Rattle.std.proofs.lemmas.List.{drop_at}
+use Rattle.cq_records.specs.Frames.{are_zeros, frames, frames_end, is_closed, records, joined, all_sound}
 use Rattle.cq_records.specs.Layout.{IsLog}
 use Rattle.cq_records.proofs.Frames.{of_zeros}
 use Rattle.cq_journal.specs.declared.number.TheConstants.{NUMBER_LIMIT}
@@ -57,3 +58,13 @@ blank_log len bytes zeros =
       ends = sym (ap (λ (fs : List (List ℕ)). length (joined fs)) none);
       sound = ap all_sound none;
     }
+
+-- a log is closed where it ends
+pub log_closed : (bytes : List ℕ) (end : ℕ) → IsLog bytes end → is_closed bytes ≡ true
+log_closed bytes end log =
+    ap (λ (l : List ℕ). are_zeros (drop (frames_end bytes) l)) log.is
+    ∙ ap are_zeros (drop_at (joined (frames bytes)) (replicate log.room 0) (frames_end bytes) refl) ∙ zeros_are log.room
+  where
+    zeros_are : (n : ℕ) → are_zeros (replicate n 0) ≡ true
+    zeros_are zero = refl
+    zeros_are (suc n) = zeros_are n

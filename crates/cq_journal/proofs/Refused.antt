@@ -5,7 +5,8 @@ use Rattle.std.proofs.lemmas.Bool.{true≢false}
 use Rattle.std.proofs.lemmas.Bool.Decides.{nat_tests}
 use Rattle.cq_disk.specs.Region.{part}
 use Rattle.cq_disk.specs.declared.device.Device.{Ghosts}
-use Rattle.cq_records.specs.Frames.{frames, all_sound}
+use Rattle.std.proofs.lemmas.List.{get_or_append_left}
+use Rattle.cq_records.specs.Frames.{frames, is_closed, all_sound}
 use Rattle.cq_journal.specs.declared.journal.Journal.{Journal}
 use Rattle.cq_journal.specs.declared.number.TheConstants.{NUMBER_LIMIT}
 use Rattle.cq_journal.specs.Intact.{IsIntactAt, IsIntact}
@@ -17,6 +18,7 @@ use Rattle.cq_journal.specs.within.Bounds.{IsWithin}
 use Rattle.cq_journal.proofs.Bases.{each_both}
 use Rattle.cq_journal.proofs.Halves.{number_back}
 use Rattle.cq_journal.proofs.Intact.{intact_at}
+use Rattle.cq_journal.proofs.RegionLists.{snoc_same}
 use Rattle.cq_journal.proofs.Regions.{each_at, each_left, each_so, last_of, places_back}
 
 -- two halves of which one has the number 0 and counts
@@ -35,15 +37,6 @@ pub has_root : (half : ℕ) (bytes : List ℕ) → number_in (root_of half bytes
 has_root half bytes none halves = halves.differ (both_none (half_of 0 half bytes) (half_of half half bytes) none)
 
 -- ---- what the root names
-
-snoc_same : (xs ys : List ℕ) (x y : ℕ) → xs ++ x ∷ [] ≡ ys ++ y ∷ [] → (xs ≡ ys) × (x ≡ y)
-snoc_same [] [] x y same = (refl, ap (λ (l : List ℕ). get_or l 0 x) same)
-snoc_same [] (z ∷ ys) x y same = absurd (omega (arith, ap length same, length-append ys (y ∷ [])))
-snoc_same (w ∷ xs) [] x y same = absurd (omega (arith, ap length same, length-append xs (x ∷ [])))
-snoc_same (w ∷ xs) (z ∷ ys) x y same =
-    let heads : w ≡ z = ap (λ (l : List ℕ). get_or l 0 w) same in
-    let rest = snoc_same xs ys x y (ap (λ (l : List ℕ). drop 1 l) same) in
-    ((λ i. heads i ∷ rest.0 i), rest.1)
 
 none_named : (xs : List ℕ) (x : ℕ) → [] ≡ xs ++ x ∷ [] → ⊥
 none_named xs x same = omega (arith, ap length same, length-append xs (x ∷ []))
@@ -122,6 +115,12 @@ places_none (a ∷ b ∷ c ∷ d ∷ e ∷ rest) short = absurd (omega (arith, s
 module _ {D : Type 0} {g : Ghosts D} (j : Journal D g) (q : HasRegions j) (honest : IsTrue (g.is_honest (journal_device j))) (i : IsIntact (journal_half j) (region_len j) (g.seen (journal_device j))) where
   pub region_sound : (n : ℕ) → n < length (journal_places j) → all_sound (frames (part (get_or (journal_places j) n 0) (region_len j) (g.seen (journal_device j)))) ≡ true
   region_sound n below = each_at (λ p. all_sound (frames (part p (region_len j) (g.seen (journal_device j)))) ≡ true) (journal_places j) n (intact_at j q honest i).regions below
+
+  -- behind those of one that doesn't grow there are zeros
+  pub region_closed : (n : ℕ) → n < length j.closed.items → is_closed (part (get_or (journal_places j) n 0) (region_len j) (g.seen (journal_device j))) ≡ true
+  region_closed n below =
+      ap (λ (p : ℕ). is_closed (part p (region_len j) (g.seen (journal_device j)))) (get_or_append_left j.closed.items (j.growing ∷ []) 0 n below)
+      ∙ each_at (λ p. is_closed (part p (region_len j) (g.seen (journal_device j))) ≡ true) j.closed.items n (intact_at j q honest i).closed_logs below
 
   pub growing_sound : grows_soundly j ≡ true
   growing_sound = last_of (λ p. all_sound (frames (part p (region_len j) (g.seen (journal_device j)))) ≡ true) j.closed.items j.growing (intact_at j q honest i).regions

@@ -1,5 +1,5 @@
 -- The regions of a journal, one by one.
-use Rattle.std.proofs.Common.{◌≡◌, ℕ, zero, suc, ◌+◌, ◌<◌, ◌≤◌, List, [], ◌∷◌, ◌++◌, length, take, append_assoc, refl, sym, ◌∙◌, ap, arith}
+use Rattle.std.proofs.Common.{◌≡◌, ℕ, zero, suc, ◌+◌, ◌<◌, ◌≤◌, List, [], ◌∷◌, ◌++◌, length, take, drop, append_assoc, refl, sym, ◌∙◌, ap, arith, length-append}
 use Rattle.std.specs.Prelude.{IsTrue, Some, get_or}
 use Rattle.cq_disk.specs.Region.{part}
 use Rattle.cq_disk.specs.declared.device.Device.{Ghosts}
@@ -9,6 +9,16 @@ use Rattle.cq_journal.specs.Regions.{all_records, kept, kept_regions, named_regi
 use Rattle.cq_journal.specs.Root.{root_number}
 use Rattle.cq_journal.specs.declared.journal.Journal.{Journal}
 use Rattle.cq_journal.proofs.Regions.{append-none, kept_of, places_back}
+
+-- rows that end with one number each
+pub snoc_same : (xs ys : List ℕ) (x y : ℕ) → xs ++ x ∷ [] ≡ ys ++ y ∷ [] → (xs ≡ ys) × (x ≡ y)
+snoc_same [] [] x y same = (refl, ap (λ (l : List ℕ). get_or l 0 x) same)
+snoc_same [] (z ∷ ys) x y same = absurd (omega (arith, ap length same, length-append ys (y ∷ [])))
+snoc_same (w ∷ xs) [] x y same = absurd (omega (arith, ap length same, length-append xs (x ∷ [])))
+snoc_same (w ∷ xs) (z ∷ ys) x y same =
+    let heads : w ≡ z = ap (λ (l : List ℕ). get_or l 0 w) same in
+    let rest = snoc_same xs ys x y (ap (λ (l : List ℕ). drop 1 l) same) in
+    ((λ i. heads i ∷ rest.0 i), rest.1)
 
 pub regions_long : (len : ℕ) (ns bytes : List ℕ) → length (regions_at len ns bytes) ≡ length ns
 regions_long len [] bytes = refl

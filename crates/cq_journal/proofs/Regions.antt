@@ -4,13 +4,13 @@ use Rattle.std.specs.Prelude.{map, replicate, Some, get_or, true, ◌*◌, ◌/�
 use Rattle.std.proofs.lemmas.Bool.{and_from}
 use Rattle.std.proofs.lemmas.Bool.Decides.{nat_tests}
 use Rattle.cq_disk.specs.Region.{part, Beside}
-use Rattle.cq_records.specs.Frames.{text_of, frames, records, has_no_zero, all_sound}
+use Rattle.cq_records.specs.Frames.{text_of, frames, is_closed, records, has_no_zero, all_sound}
 use Rattle.cq_records.specs.Layout.{IsPrefixOf}
 use Rattle.cq_journal.specs.declared.number.TheConstants.{NUMBER_LIMIT}
 use Rattle.cq_journal.specs.Numbers.{digits, number_of}
 use Rattle.cq_records.proofs.Frames.{of_zeros}
 use Rattle.cq_journal.specs.Roots.{first_of, later, root_of, numbered, IsOldOrNew}
-use Rattle.cq_journal.specs.Regions.{places_text, places_in, records_at, named_records, kept, Each, AreApart, AreSound, HasPrefixOf, HasRecords}
+use Rattle.cq_journal.specs.Regions.{places_text, places_in, records_at, named_records, kept, Each, AreApart, AreSound, HasPrefixOf, HasRecords, AreClosed}
 
 -- ---- the places that a text names
 
@@ -56,6 +56,11 @@ records_apart len g (n ∷ ns) old c apart beside = λ i. (ap records (part_apar
 pub sound_apart : (len g : ℕ) (ns : List ℕ) (old c : List ℕ) → Each (λ n. AreApart len n g) ns → Beside g len old c → AreSound len ns old → AreSound len ns c
 sound_apart len g [] old c apart beside sound = tt
 sound_apart len g (n ∷ ns) old c apart beside sound = (ap (λ (l : List ℕ). all_sound (frames l)) (part_apart len n g old c apart.0 beside) ∙ sound.0, sound_apart len g ns old c apart.1 beside sound.1)
+
+-- they have zeros behind their records still
+pub closed_apart : (len g : ℕ) (ns : List ℕ) (old c : List ℕ) → Each (λ n. AreApart len n g) ns → Beside g len old c → AreClosed len ns old → AreClosed len ns c
+closed_apart len g [] old c apart beside closed = tt
+closed_apart len g (n ∷ ns) old c apart beside closed = (ap is_closed (part_apart len n g old c apart.0 beside) ∙ closed.0, closed_apart len g ns old c apart.1 beside closed.1)
 
 -- the root lies before all regions
 pub root_apart : (half g len : ℕ) (old c : List ℕ) → half + half ≤ g → Beside g len old c → root_of half c ≡ root_of half old

@@ -8,7 +8,7 @@ use Rattle.cq_journal.specs.declared.journal.Journal.{Journal}
 use Rattle.cq_journal.specs.declared.journal.TheConstants.{REGION_LIMIT}
 use Rattle.cq_journal.specs.declared.number.TheConstants.{NUMBER_LIMIT}
 use Rattle.cq_journal.specs.Journal.{journal_device, journal_half, journal_places}
-use Rattle.cq_journal.specs.Regions.{Each, AreApart, AreSound, records_at, HasRecords}
+use Rattle.cq_journal.specs.Regions.{Each, AreApart, AreSound, AreClosed, records_at, HasRecords}
 
 -- the places of a base's regions, in order
 abbrev pub base_places : Base → List ℕ
@@ -20,7 +20,7 @@ module _ {D : Type 0} {g : Ghosts D} where
   base_records j b = records_at j.len (base_places b) (g.seen (journal_device j))
 
   -- A base's regions lie behind the root and in the device, apart from those that count, and the one that grows apart from its others.
-  -- That one is a log, and all records have their checksums.
+  -- That one is a log, and so are the others. All records have their checksums.
   pub record IsBase (j : Journal D g) (b : Base) : Type 0 where
     pub behind : Each (λ n. journal_half j + journal_half j ≤ n) (base_places b)
     pub within : Each (λ n. n + j.len ≤ length (g.seen (journal_device j))) (base_places b)
@@ -29,6 +29,7 @@ module _ {D : Type 0} {g : Ghosts D} where
     pub alone : Each (λ n. AreApart j.len n b.growing) b.closed.items
     pub few : length (base_places b) < REGION_LIMIT
     pub sound : AreSound j.len (base_places b) (g.seen (journal_device j))
+    pub closed_logs : AreClosed j.len b.closed.items (g.seen (journal_device j))
     pub log : IsLog (part b.growing j.len (g.seen (journal_device j))) b.end
 
 -- these are the journal's records, or those are

@@ -5,11 +5,12 @@ use Rattle.cq_disk.specs.declared.device.Device.{Ghosts}
 use Rattle.cq_journal.specs.declared.journal.Journal.{Journal}
 use Rattle.cq_journal.specs.declared.number.TheConstants.{NUMBER_LIMIT}
 use Rattle.cq_journal.specs.Journal.{journal_device, journal_half, region_len}
-use Rattle.cq_journal.specs.Regions.{Each, AreApart, AreSound, places_text}
+use Rattle.cq_journal.specs.Regions.{Each, AreApart, AreSound, AreClosed, places_text}
 use Rattle.cq_journal.specs.Roots.{root_of, numbered, HasSoundHalves}
 
 -- The root has this number and names these regions, of which the last one grows. They lie behind the root and in the device, and the one
--- that grows is apart from the others. All records have their checksums, those of both halves of the root and those of the regions.
+-- that grows is apart from the others. All records have their checksums, those of both halves of the root and those of the regions. Behind
+-- those of the regions that don't grow there are zeros.
 pub record IsIntactAt (half len number : ℕ) (closed : List ℕ) (growing : ℕ) (bytes : List ℕ) : Type 0 where
   pub names : root_of half bytes ≡ Some (numbered number (places_text (closed ++ growing ∷ [])))
   pub small_number : number < NUMBER_LIMIT
@@ -19,6 +20,7 @@ pub record IsIntactAt (half len number : ℕ) (closed : List ℕ) (growing : ℕ
   pub apart : Each (λ n. AreApart len n growing) closed
   pub halves : HasSoundHalves half bytes
   pub regions : AreSound len (closed ++ growing ∷ []) bytes
+  pub closed_logs : AreClosed len closed bytes
 
 -- so it is with some number and some regions
 abbrev pub IsIntact : ℕ → ℕ → List ℕ → Type 0

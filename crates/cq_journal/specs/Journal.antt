@@ -1,8 +1,8 @@
 -- A journal on its device.
-use Rattle.std.specs.Prelude.{◌≡◌, Bool, ℕ, ◌+◌, ◌<◌, ◌≤◌, List, [], ◌∷◌, ◌++◌, length, drop, get_or, Some, IsTrue}
+use Rattle.std.specs.Prelude.{◌≡◌, ◌⊎◌, Bool, ℕ, ◌+◌, ◌<◌, ◌≤◌, List, [], ◌∷◌, ◌++◌, length, drop, get_or, Some, IsTrue}
 use Rattle.cq_disk.specs.Region.{part}
 use Rattle.cq_disk.specs.declared.device.Device.{Ghosts}
-use Rattle.cq_records.specs.Frames.{frames, all_sound, IsDamaged}
+use Rattle.cq_records.specs.Frames.{frames, all_sound, HasMore, IsDamaged}
 use Rattle.cq_records.specs.Layout.{IsLog}
 use Rattle.cq_journal.specs.declared.journal.Journal.{Journal}
 use Rattle.cq_journal.specs.declared.journal.TheConstants.{REGION_LIMIT}
@@ -77,8 +77,11 @@ module _ {D : Type 0} {g : Ghosts D} where
     pub free : IsFree j first × IsFree j second
     pub apart : first + j.len ≤ second
 
-  -- at this place of the device a frame of this region begins whose text has another checksum
+  -- At this place of the device a frame of this region begins whose text has another checksum. Or the records of this region end there,
+  -- which doesn't grow, and not only zeros come behind them: one of them was lost.
   pub record IsDamagedAt (j : Journal D g) (index place : ℕ) : Type 0 where
     pub at : ℕ
     pub is : place ≡ get_or (journal_places j) index 0 + at
-    pub damaged : IsDamaged (drop at (part (get_or (journal_places j) index 0) j.len (g.seen (journal_device j))))
+    pub damaged :
+        IsDamaged (drop at (part (get_or (journal_places j) index 0) j.len (g.seen (journal_device j))))
+        ⊎ ((index < length j.closed.items) × HasMore at (part (get_or (journal_places j) index 0) j.len (g.seen (journal_device j))))

@@ -2,7 +2,7 @@
 -- of those that count, in order, and their records are the journal's.
 use Rattle.std.specs.Prelude.{◌≡◌, ◌⊎◌, ℕ, ◌+◌, ◌-◌, ◌%◌, ◌≤◌, true, List, [], ◌∷◌, ◌++◌, take, drop, Option, Some, None, ⊤}
 use Rattle.cq_disk.specs.Region.{part}
-use Rattle.cq_records.specs.Frames.{frames, records, all_sound}
+use Rattle.cq_records.specs.Frames.{frames, is_closed, records, all_sound}
 use Rattle.cq_journal.specs.Numbers.{digits, number_of}
 use Rattle.cq_journal.specs.Roots.{root_of}
 
@@ -56,6 +56,10 @@ Each P (n ∷ ns) = P n × Each P ns
 -- each record of the regions of this length at these places has its checksum
 abbrev pub AreSound : ℕ → List ℕ → List ℕ → Type 0
 AreSound len places bytes = Each (λ n. all_sound (frames (part n len bytes)) ≡ true) places
+
+-- behind the records of each region of this length at these places there is nothing but zeros
+abbrev pub AreClosed : ℕ → List ℕ → List ℕ → Type 0
+AreClosed len places bytes = Each (λ n. is_closed (part n len bytes) ≡ true) places
 
 -- no byte is of both regions
 abbrev pub AreApart : ℕ → ℕ → ℕ → Type 0

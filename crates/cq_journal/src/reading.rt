@@ -1,7 +1,7 @@
 //! What the regions of a journal have, read one by one.
-ghost use Rattle.std.specs.Prelude.{◌≡◌, ◌++◌, ◌+◌, ◌<◌, ◌≤◌, ℕ, [], true, false, length, drop, get_or, Err, IsTrue, IfOk, OnOk, IsErrOf};
+ghost use Rattle.std.specs.Prelude.{◌≡◌, ◌⊎◌, ◌++◌, ◌+◌, ◌<◌, ◌≤◌, ℕ, [], true, false, length, drop, get_or, Err, IsTrue, IfOk, OnOk, IsErrOf};
 ghost use Rattle.cq_disk.specs.Region.{part};
-ghost use Rattle.cq_records.specs.Frames.{frames, records, joined, all_sound, IsDamaged};
+ghost use Rattle.cq_records.specs.Frames.{frames, is_closed, records, joined, all_sound, HasMore, IsDamaged};
 ghost use Rattle.cq_journal.specs.Intact.{IsIntact};
 ghost use Rattle.cq_journal.specs.Regions.{Each, IsInSteps};
 
@@ -42,8 +42,9 @@ impl<D: Device> Journal<D> {
     }
 
     /// Adds the records of a region to a text, one behind the other, and gives their number: the first region is at 0. The journal is the
-    /// same, at each moment, also where a record is damaged; it needn't be ready for records. It takes memory for the region's records.
-    /// After a fault the text may have some of them.
+    /// same, at each moment, also where a record is damaged; it needn't be ready for records. A region that doesn't grow is damaged, too,
+    /// where not only zeros come behind its records. It takes memory for the region's bytes. After a fault the text may have some of the
+    /// records.
     pub fn read_region(
         &mut self,
         alloc: Global,
@@ -58,6 +59,7 @@ impl<D: Device> Journal<D> {
         ensures regions { journal_regions self.new ≡ journal_regions self.old }
         ensures count { IfOk result (λ count. IsTrue (D.is_honest (journal_device self.new)) → count ≡ length (get_or (journal_regions self.old) index [])) }
         ensures read { OnOk result (IsTrue (D.is_honest (journal_device self.new)) → text.new.items ≡ text.old.items ++ joined (get_or (journal_regions self.old) index [])) }
+        ensures closed { OnOk result (IsTrue (D.is_honest (journal_device self.new)) → index + 1 < length (journal_regions self.old) → is_closed (part (get_or (journal_places self.old) index 0) (region_len self.old) (D.seen (journal_device self.old))) ≡ true) }
         ensures damaged { (place : ℕ) → result ≡ Err (RegionFault.Damaged place) → IsTrue (D.is_honest (journal_device self.new)) → IsDamagedAt self.old index place }
         ensures refused { (place : ℕ) → result ≡ Err (RegionFault.Damaged place) → IsTrue (D.is_honest (journal_device self.new)) → IsIntact (journal_half self.old) (region_len self.old) (D.seen (journal_device self.old)) → ⊥ }
         ensures failed { result ≡ Err RegionFault.Failed → D.faults (journal_device self.old) < D.faults (journal_device self.new) }
@@ -65,7 +67,8 @@ impl<D: Device> Journal<D> {
         let _whole = self.root.log.device.device.len();
         let place = self.place_of(index);
         let mut at = 0;
-        match self.read_place(alloc, place, &mut at, text) {
+        let grows = index >= self.closed.len();
+        match self.read_place(alloc, place, grows, &mut at, text) {
             Ok(count) => Ok(count),
             Err(ReadFault::Damaged) => Err(RegionFault::Damaged(place + at)),
             Err(ReadFault::NoMemory) => Err(RegionFault::NoMemory),
@@ -73,11 +76,13 @@ impl<D: Device> Journal<D> {
         }
     }
 
-    /// Adds the records of the region at this place, and gives their number. After `Damaged` the damaged one begins so many bytes behind it.
+    /// Adds the records of the region at this place, and gives their number. After `Damaged` the damaged one begins so many bytes behind it,
+    /// or the records end there of a region that doesn't grow, and not only zeros come behind them.
     fn read_place(
         &mut self,
         alloc: Global,
         place: usize,
+        grows: bool,
         at: &mut usize,
         text: &mut Vec<u8>,
     ) -> Result<usize, ReadFault>
@@ -91,11 +96,16 @@ impl<D: Device> Journal<D> {
         ensures count { IfOk result (λ count. IsTrue (D.is_honest (journal_device self.new)) → count ≡ length (records (part place (region_len self.old) (D.seen (journal_device self.old))))) }
         ensures read { OnOk result (IsTrue (D.is_honest (journal_device self.new)) → text.new.items ≡ text.old.items ++ joined (records (part place (region_len self.old) (D.seen (journal_device self.old))))) }
         ensures at { at.new ≤ region_len self.old }
-        ensures damaged { IsErrOf result ReadFault.Damaged → IsTrue (D.is_honest (journal_device self.new)) → IsDamaged (drop at.new (part place (region_len self.old) (D.seen (journal_device self.old)))) }
-        ensures unsound { IsErrOf result ReadFault.Damaged → IsTrue (D.is_honest (journal_device self.new)) → all_sound (frames (part place (region_len self.old) (D.seen (journal_device self.old)))) ≡ false }
+        ensures closed { OnOk result (IsTrue (D.is_honest (journal_device self.new)) → grows ≡ false → is_closed (part place (region_len self.old) (D.seen (journal_device self.old))) ≡ true) }
+        ensures damaged { IsErrOf result ReadFault.Damaged → IsTrue (D.is_honest (journal_device self.new))
+            → IsDamaged (drop at.new (part place (region_len self.old) (D.seen (journal_device self.old)))) ⊎ ((grows ≡ false) × HasMore at.new (part place (region_len self.old) (D.seen (journal_device self.old)))) }
+        ensures unsound { IsErrOf result ReadFault.Damaged → IsTrue (D.is_honest (journal_device self.new))
+            → (all_sound (frames (part place (region_len self.old) (D.seen (journal_device self.old)))) ≡ false)
+            ⊎ ((grows ≡ false) × (is_closed (part place (region_len self.old) (D.seen (journal_device self.old))) ≡ false)) }
         ensures failed { IsErrOf result ReadFault.Failed → D.faults (journal_device self.old) < D.faults (journal_device self.new) }
     {
-        self.root.read_texts_at(alloc, place, self.len, at, text)
+        self.root
+            .read_log_at(alloc, place, self.len, grows, at, text)
     }
 
     /// Where a region lies.

@@ -1,7 +1,7 @@
 -- Reading goes on behind a record.
-use Rattle.std.proofs.Common.{◌≡◌, ℕ, ◌+◌, List, [], ◌∷◌, ◌++◌, length, drop, sym, ◌∙◌, ap, arith, append_assoc, drop-drop}
+use Rattle.std.proofs.Common.{◌≡◌, ℕ, ◌+◌, ◌≤◌, List, [], ◌∷◌, ◌++◌, length, take, drop, sym, ◌∙◌, ap, arith, append_assoc, drop-drop, length-append, length-drop, length-take}
 use Rattle.std.specs.Prelude.{Bool, false, ◌&&◌, map}
-use Rattle.cq_records.specs.Frames.{text_of, frames, records, joined, all_sound, BeginsWith}
+use Rattle.cq_records.specs.Frames.{text_of, frames, frames_end, records, joined, all_sound, BeginsWith}
 
 module _ (at behind : ℕ) (bytes text : List ℕ) (begins : BeginsWith text (drop at bytes)) (is : behind ≡ at + 9 + length text) where
   later : drop (9 + length text) (drop at bytes) ≡ drop behind bytes
@@ -28,6 +28,14 @@ module _ (at behind : ℕ) (bytes text : List ℕ) (begins : BeginsWith text (dr
       ap (λ (read : List ℕ). read ++ joined (records (drop behind bytes))) added_is
       ∙ append_assoc texts text (joined (records (drop behind bytes)))
       ∙ ap (λ (rs : List (List ℕ)). texts ++ joined rs) (sym one_read) ∙ so_far
+
+  -- the frames end where they did
+  pub same_end : behind ≤ length bytes → at + frames_end (drop at bytes) ≡ behind + frames_end (drop behind bytes)
+  same_end within =
+      let first : List ℕ = take (9 + length text) (drop at bytes) in
+      let rest = ap (λ (l : List ℕ). frames_end l) later in
+      let long : length first ≡ 9 + length text = omega (arith, length-take (9 + length text) (drop at bytes), length-drop at bytes, is, within) in
+      omega (arith, ap (λ (fs : List (List ℕ)). length (joined fs)) begins.whole, length-append first (joined (frames (drop (9 + length text) (drop at bytes)))), long, rest, is)
 
   -- one record more was counted
   pub one_counted : (count all : ℕ) → count + length (records (drop at bytes)) ≡ all → count + 1 + length (records (drop behind bytes)) ≡ all

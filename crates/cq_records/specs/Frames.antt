@@ -1,6 +1,7 @@
 -- What bytes of a log stand for. A record is a frame: a gate, which is 1; three digits of the length of its text and five of the text's
 -- checksum, each one above its value in base 255, the lowest first; and the text. None of these bytes is zero.
 use Rattle.std.specs.Prelude.{◌≡◌, ℕ, zero, suc, ◌+◌, ◌-◌, ◌*◌, ◌/◌, ◌%◌, ◌==◌, ◌&&◌, nat_le, Bool, true, false, List, [], ◌∷◌, ◌++◌, length, take, drop, map, slice_index, if◌then◌else◌}
+use Rattle.std.specs.List.{list_all}
 use Rattle.cq_records.specs.declared.frame.TheConstants.{TEXT_LIMIT}
 use Rattle.cq_records.specs.Checksum.{checksum}
 
@@ -62,6 +63,17 @@ abbrev pub all_sound : List (List ℕ) → Bool
 all_sound [] = true
 all_sound (f ∷ fs) = is_sound f && all_sound fs
 
+abbrev pub are_zeros : List ℕ → Bool
+are_zeros bytes = list_all (λ b. b == 0) bytes
+
+-- where the last of the frames ends
+abbrev pub frames_end : List ℕ → ℕ
+frames_end bytes = length (joined (frames bytes))
+
+-- there is nothing but zeros behind the frames
+abbrev pub is_closed : List ℕ → Bool
+is_closed bytes = are_zeros (drop (frames_end bytes) bytes)
+
 -- bytes begin with a frame of this text
 pub record BeginsWith (text bytes : List ℕ) : Type 0 where
   pub whole : frames bytes ≡ take (9 + length text) bytes ∷ frames (drop (9 + length text) bytes)
@@ -72,3 +84,8 @@ pub record BeginsWith (text bytes : List ℕ) : Type 0 where
 pub record IsDamaged (bytes : List ℕ) : Type 0 where
   pub whole : is_whole bytes ≡ true
   pub unsound : is_sound (take (frame_length bytes) bytes) ≡ false
+
+-- no whole frame begins at this place, behind all frames, and there are not only zeros
+pub record HasMore (at : ℕ) (bytes : List ℕ) : Type 0 where
+  pub ends : at ≡ frames_end bytes
+  pub more : are_zeros (drop at bytes) ≡ false

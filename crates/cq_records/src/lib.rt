@@ -21,4 +21,4 @@ pub use laws::{
     a_commit_leaves_no_damage, a_part_changes_alone, bytes_stand_for, no_outcome_is_damaged,
 };
 pub use log::Log;
-pub use reading::{Found, read_into, read_record, read_texts};
+pub use reading::{Found, read_into, read_log, read_record, read_texts};

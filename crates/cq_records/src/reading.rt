@@ -1,12 +1,12 @@
 //! Reading the records of a log that a crash may have left.
-ghost use Rattle.std.specs.Prelude.{◌≡◌, ◌+◌, ◌<◌, ◌≤◌, ◌++◌, [], true, false, length, drop, IsTrue, IfOk, OnOk, IfSome, IsErrOf, MatchOption};
+ghost use Rattle.std.specs.Prelude.{◌≡◌, ◌⊎◌, ℕ, List, ◌+◌, ◌<◌, ◌≤◌, ◌++◌, [], true, false, length, drop, IsTrue, IfOk, OnOk, IfSome, IsErrOf, MatchOption};
 ghost use Rattle.cq_disk.specs.Device.{LeavesOnly};
 ghost use Rattle.cq_records.specs.Batch.{batch_bytes};
-ghost use Rattle.cq_records.specs.Frames.{is_text, frames, records, joined, all_sound, BeginsWith, IsDamaged};
+ghost use Rattle.cq_records.specs.Frames.{are_zeros, is_closed, is_text, frames, frames_end, records, joined, all_sound, BeginsWith, HasMore, IsDamaged};
 
 use crate::frame::{HEAD_LENGTH, has_no_zero, read_head};
 use crate::{Batch, ReadFault, checksum};
-use cq_disk::Device;
+use cq_disk::{Device, DeviceFault};
 use std::alloc::Global;
 
 /// A record, and the place behind its frame.
@@ -100,6 +100,7 @@ pub fn read_texts<D: Device>(
     ensures count { IfOk result (λ count. IsTrue (D.is_honest device.new) → count ≡ length (records (drop at.old (D.seen device.old)))) }
     ensures read { OnOk result (IsTrue (D.is_honest device.new) → text.new.items ≡ text.old.items ++ joined (records (drop at.old (D.seen device.old)))) }
     ensures within { at.new ≤ length (D.seen device.old) }
+    ensures end { OnOk result (IsTrue (D.is_honest device.new) → at.new ≡ at.old + frames_end (drop at.old (D.seen device.old))) }
     ensures damaged { IsErrOf result ReadFault.Damaged → IsTrue (D.is_honest device.new) → IsDamaged (drop at.new (D.seen device.old)) }
     ensures unsound { IsErrOf result ReadFault.Damaged → IsTrue (D.is_honest device.new) → all_sound (frames (drop at.old (D.seen device.old))) ≡ false }
     ensures failed { IsErrOf result ReadFault.Failed → D.faults device.old < D.faults device.new }
@@ -117,4 +118,62 @@ pub fn read_texts<D: Device>(
         count += 1;
     }
     Ok(count)
+}
+
+fn are_zeros(bytes: &[u8]) -> bool
+    ensures { result ≡ are_zeros bytes.now }
+{
+    bytes.iter().all(|byte| *byte == 0)
+}
+
+/// Whether a device has nothing but zeros from this place on. It takes memory for these bytes.
+fn has_zeros_from<D: Device>(
+    alloc: Global,
+    device: &mut D,
+    from: usize,
+) -> Result<bool, DeviceFault>
+    requires { from ≤ length (D.seen device.old) }
+    ensures zeros { IfOk result (λ are. IsTrue (D.is_honest device.new) → are ≡ are_zeros (drop from (D.seen device.old))) }
+    ensures failed { IsErrOf result DeviceFault.Failed → D.faults device.old < D.faults device.new }
+    ensures later { D.faults device.old ≤ D.faults device.new }
+
+    ensures seen { D.seen device.new ≡ D.seen device.old }
+    ensures honest { IsTrue (D.is_honest device.new) → IsTrue (D.is_honest device.old) }
+    ensures any_moment { LeavesOnly D.moment D.left_since device.old device.new (D.may_leave device.old) }
+    ensures keeps { D.keeps device.old device.new }
+{
+    let mut bytes = vec![in alloc; 0u8; device.len() - from]?;
+    device.read_at(from, &mut bytes)?;
+    Ok(are_zeros(&bytes))
+}
+
+/// Adds the texts of a log's records to a text, as `read_texts` does from its begin on. A log that doesn't grow any more has zeros alone
+/// behind its records: where there is anything else, one of them was lost, and it is damaged at that place.
+pub fn read_log<D: Device>(
+    alloc: Global,
+    device: &mut D,
+    grows: bool,
+    at: &mut usize,
+    text: &mut Vec<u8>,
+) -> Result<usize, ReadFault>
+    requires { at.old ≡ 0 }
+    ensures count { IfOk result (λ count. IsTrue (D.is_honest device.new) → count ≡ length (records (D.seen device.old))) }
+    ensures read { OnOk result (IsTrue (D.is_honest device.new) → text.new.items ≡ text.old.items ++ joined (records (D.seen device.old))) }
+    ensures closed { OnOk result (IsTrue (D.is_honest device.new) → grows ≡ false → is_closed (D.seen device.old) ≡ true) }
+    ensures within { at.new ≤ length (D.seen device.old) }
+    ensures damaged { IsErrOf result ReadFault.Damaged → IsTrue (D.is_honest device.new) → IsDamaged (drop at.new (D.seen device.old)) ⊎ ((grows ≡ false) × HasMore at.new (D.seen device.old)) }
+    ensures unsound { IsErrOf result ReadFault.Damaged → IsTrue (D.is_honest device.new) → (all_sound (frames (D.seen device.old)) ≡ false) ⊎ ((grows ≡ false) × (is_closed (D.seen device.old) ≡ false)) }
+    ensures failed { IsErrOf result ReadFault.Failed → D.faults device.old < D.faults device.new }
+    ensures later { D.faults device.old ≤ D.faults device.new }
+
+    ensures seen { D.seen device.new ≡ D.seen device.old }
+    ensures honest { IsTrue (D.is_honest device.new) → IsTrue (D.is_honest device.old) }
+    ensures any_moment { LeavesOnly D.moment D.left_since device.old device.new (D.may_leave device.old) }
+    ensures keeps { D.keeps device.old device.new }
+{
+    let count = read_texts(alloc, device, at, text)?;
+    if grows || has_zeros_from(alloc, device, *at)? {
+        return Ok(count);
+    }
+    Err(ReadFault::Damaged)
 }

@@ -145,3 +145,32 @@ fn a_root_that_lost_a_half_names_all_regions(rt: HostRuntime) -> Result<(), Fail
     }
     Ok(())
 }
+
+/// What is read of the first of two regions, once the byte at this place of it has become zero.
+fn read_without(
+    alloc: Global,
+    place: usize,
+) -> Result<Result<Option<Vec<u8>>, RegionFault>, OpenFault> {
+    let journal = journal_of_two_regions(alloc)?;
+    let device = journal.into_device();
+    let mut bytes = device.bytes().to_vec(alloc)?;
+    if let Some(byte) = bytes.get_mut((2 * LEN).saturating_add(place)) {
+        *byte = 0;
+    }
+    let mut journal = open(alloc, bytes)?;
+    Ok(read(alloc, &mut journal, 0))
+}
+
+#[test]
+fn a_region_that_does_not_grow_loses_no_record_in_silence(rt: HostRuntime) -> Result<(), Fail> {
+    let alloc = rt.alloc();
+    // A byte of the frame of "hi", which has 11 bytes, and one of that of "you", which has 12.
+    for place in 0..23 {
+        let begin = if place < 11 { 2 * LEN } else { 2 * LEN + 11 };
+        assert_eq!(rt;
+            read_without(alloc, place)?,
+            Err(RegionFault::Damaged(begin))
+        );
+    }
+    Ok(())
+}

@@ -3,7 +3,7 @@ use Rattle.std.proofs.Common.{◌≡◌, ◌≤◌, ◌∙◌, ℕ, List, length
 use Rattle.std.specs.Prelude.{[], ◌++◌, ◌+◌, IsTrue, IfSome, MatchOption}
 use Rattle.cq_disk.proofs.Moments.{runs_on, weakened}
 use Rattle.cq_records.specs.Frames.{frames, BeginsWith}
-use Rattle.cq_records.proofs.Steps.{one_counted, text_added, still_unsound}
+use Rattle.cq_records.proofs.Steps.{one_counted, same_end, text_added, still_unsound}
 use Rattle.cq_records.proofs.reading.read_texts.Goals as goal
 
 pub loop-found-preserved : goal.loop-found-preserved
@@ -25,6 +25,8 @@ loop-found-preserved g c =
       seen = e.seen ∙ i.seen;
       read = λ honest. text_added c.loop-found.at found.behind old found.text.items (begins honest) behind.0 _ _ _ (c.in_ok-extend_from_slice.ensures.items ∙ ap (λ (more : List ℕ). c.loop-found.text.items ++ more) c.deref.ensures.value) (i.read (e.honest honest));
       few = omega (arith, i.few, behind.0);
+      end = λ honest.
+          sym (same_end c.loop-found.at found.behind old found.text.items (begins honest) behind.0 (subst (λ (bytes : List ℕ). found.behind ≤ length bytes) i.seen behind.1)) ∙ i.end (e.honest honest);
       count = λ honest. one_counted c.loop-found.at found.behind old found.text.items (begins honest) behind.0 c.loop-found.count _ (i.count (e.honest honest));
       damaged = λ honest unsound. i.damaged (e.honest honest) (still_unsound c.loop-found.at found.behind old found.text.items (begins honest) behind.0 unsound);
       crash = λ f left. i.crash f (e.any_moment.each f (g.met.D.Device.counts_now new (d.moment now) f e.any_moment.later left));

@@ -27,7 +27,7 @@ returns-clause-base g c =
     let new = c.commit_outside-done.new.self in
     on_ok c.commit_outside-done.result done.log (λ log.
     base_made b.growing c.args.self.now new done.changes (record { closed = b.closed; growing = b.growing; end = new.root.log.end }) b.closed.items refl refl
-    q.behind q.within q.small q.apart q.alone q.few (each_left (λ n. all_sound (frames (part n j.len (g.D.Device.seen j.root.log.device.device))) ≡ true) b.closed.items b.growing q.sound) log)
+    q.behind q.within q.small q.apart q.alone q.few (each_left (λ n. all_sound (frames (part n j.len (g.D.Device.seen j.root.log.device.device))) ≡ true) b.closed.items b.growing q.sound) q.closed_logs log)
 
 pub returns-clause-added : goal.returns-clause-added
 returns-clause-added g c =
@@ -52,6 +52,7 @@ returns-clause-full g c err =
       full.0,
       base_made b.growing j new done.changes (record { closed = b.closed; growing = b.growing; end = new.root.log.end }) b.closed.items refl refl
           q.behind q.within q.small q.apart q.alone q.few (each_left (λ n. all_sound (frames (part n j.len (g.D.Device.seen j.root.log.device.device))) ≡ true) b.closed.items b.growing q.sound)
+          q.closed_logs
           (subst (λ (e : ℕ). IsLog (part b.growing j.len (d.seen new.root.log.device.device)) e) (sym full.2) (subst (λ (bytes : List ℕ). IsLog (part b.growing j.len bytes) b.end) (sym seen_is) q.log)),
       (λ i. records_at (done.changes.len i) (base_places b) (seen_is i)),
     )

@@ -24,7 +24,7 @@ returns-clause-base g c =
     let free = c.in-Some.ensures in
     let b = c.in_ok-clear_outside.ensures in
     base_made c.in-Some.place c.args.self.now c.clear_outside.new.self b.changes (record { closed = c.new.result; growing = c.in-Some.place; end = 0 }) [] c.new.ensures.items refl
-    (free.behind, tt) (free.within, tt) (free.small, tt) (free.apart, tt) tt (omega arith) tt (blank_log c.args.self.now.len _ b.zeros)
+    (free.behind, tt) (free.within, tt) (free.small, tt) (free.apart, tt) tt (omega arith) tt tt (blank_log c.args.self.now.len _ b.zeros)
 
 pub returns-in_default-clause-intact : goal.returns-in_default-clause-intact
 returns-in_default-clause-intact g c = rests_intact c.args.self.now (λ f. g.met.D.Device.only_now c.args.self.now.root.log.device.device f) c.requires.regions

@@ -77,5 +77,6 @@ returns-clause-intact g c =
         apart = tt;
         halves = halves_apart c.args.half n p old bytes (omega arith) b.beside made.sound;
         regions = (sound_blank n (part p n bytes) b.zeros, tt);
+        closed_logs = tt;
       },
     )

@@ -5,7 +5,7 @@ use Rattle.cq_disk.specs.Device.{LeavesOnly}
 use Rattle.cq_disk.specs.Region.{part}
 use Rattle.cq_disk.proofs.Moments.{weakened, runs_on, started}
 use Rattle.cq_records.specs.Frames.{has_no_zero}
-use Rattle.cq_journal.proofs.Moves.{blank_log}
+use Rattle.cq_journal.proofs.Moves.{blank_log, log_closed}
 use Rattle.cq_journal.specs.declared.number.TheConstants.{NUMBER_LIMIT}
 use Rattle.cq_journal.specs.Regions.{Each, AreApart, places_text, HasRecords, records_at}
 use Rattle.cq_journal.specs.Roots.{numbered, IsOldOrNew, IsOldOrPut}
@@ -187,7 +187,7 @@ returns-in_err-put_in_both-clause-intact g c = λ now i.
     let at = intact_at j q (b.changes.honest honest_mid) i in
     let text_is : c.deref-3.result.now ≡ places_text (places ++ p ∷ []) = c.deref-3.ensures.value ∙ c.in_ok-closed.ensures.text ∙ ap (λ (xs : List ℕ). places_text ((xs ++ j.growing ∷ []) ++ p ∷ [])) c.deref.ensures.value in
     let named : (f : List ℕ) → IsOldOrPut blanked.log.device.len (d.seen mid) c.deref-3.result.now f → IsIntact h j.len f = λ f either.
-    with_next h j.len j.root.number j.closed.items j.growing (d.seen device) at p free.behind free.small free.within free.apart (d.seen mid) b.changes.beside (sound_blank j.len _ b.zeros) either.0 either.1 f
+    with_next h j.len j.root.number j.closed.items j.growing (d.seen device) at p free.behind free.small free.within free.apart (d.seen mid) b.changes.beside (sound_blank j.len _ b.zeros) (log_closed (part j.growing j.len (d.seen device)) j.end c.requires.journal.log) either.0 either.1 f
     (subst (λ (k : ℕ). IsOldOrNew k (d.seen mid) (numbered either.0 (places_text (places ++ p ∷ []))) f) b.changes.half
     (subst (λ (text : List ℕ). IsOldOrNew blanked.log.device.len (d.seen mid) (numbered either.0 text) f) text_is either.2)) in
     let P : List ℕ → Type 0 = IsIntact h j.len in
@@ -211,7 +211,7 @@ returns-clause-intact g c = λ now i.
     let at = intact_at j q (b.changes.honest honest_mid) i in
     let text_is : c.deref-3.result.now ≡ places_text (places ++ p ∷ []) = c.deref-3.ensures.value ∙ c.in_ok-closed.ensures.text ∙ ap (λ (xs : List ℕ). places_text ((xs ++ j.growing ∷ []) ++ p ∷ [])) c.deref.ensures.value in
     let named : (f : List ℕ) → IsOldOrPut blanked.log.device.len (d.seen mid) c.deref-3.result.now f → IsIntact h j.len f = λ f either.
-    with_next h j.len j.root.number j.closed.items j.growing (d.seen device) at p free.behind free.small free.within free.apart (d.seen mid) b.changes.beside (sound_blank j.len _ b.zeros) either.0 either.1 f
+    with_next h j.len j.root.number j.closed.items j.growing (d.seen device) at p free.behind free.small free.within free.apart (d.seen mid) b.changes.beside (sound_blank j.len _ b.zeros) (log_closed (part j.growing j.len (d.seen device)) j.end c.requires.journal.log) either.0 either.1 f
     (subst (λ (k : ℕ). IsOldOrNew k (d.seen mid) (numbered either.0 (places_text (places ++ p ∷ []))) f) b.changes.half
     (subst (λ (text : List ℕ). IsOldOrNew blanked.log.device.len (d.seen mid) (numbered either.0 text) f) text_is either.2)) in
     let P : List ℕ → Type 0 = IsIntact h j.len in
@@ -235,7 +235,7 @@ returns-clause-stays g c = λ now i.
     let at = intact_at j q (b.changes.honest honest_mid) i in
     let text_is : c.deref-3.result.now ≡ places_text (places ++ p ∷ []) = c.deref-3.ensures.value ∙ c.in_ok-closed.ensures.text ∙ ap (λ (xs : List ℕ). places_text ((xs ++ j.growing ∷ []) ++ p ∷ [])) c.deref.ensures.value in
     let named : (f : List ℕ) → IsOldOrPut blanked.log.device.len (d.seen mid) c.deref-3.result.now f → IsIntact h j.len f = λ f either.
-    with_next h j.len j.root.number j.closed.items j.growing (d.seen device) at p free.behind free.small free.within free.apart (d.seen mid) b.changes.beside (sound_blank j.len _ b.zeros) either.0 either.1 f
+    with_next h j.len j.root.number j.closed.items j.growing (d.seen device) at p free.behind free.small free.within free.apart (d.seen mid) b.changes.beside (sound_blank j.len _ b.zeros) (log_closed (part j.growing j.len (d.seen device)) j.end c.requires.journal.log) either.0 either.1 f
     (subst (λ (k : ℕ). IsOldOrNew k (d.seen mid) (numbered either.0 (places_text (places ++ p ∷ []))) f) b.changes.half
     (subst (λ (text : List ℕ). IsOldOrNew blanked.log.device.len (d.seen mid) (numbered either.0 text) f) text_is either.2)) in
     named (d.seen fin) (c.in_ok-put_in_both.ensures.shown now)

@@ -1,12 +1,15 @@
 -- A region that counts is read.
-use Rattle.std.proofs.Common.{rules, ℕ, ◌<◌, List, ◌++◌, length, sym, ◌∙◌, ap, arith}
+use Rattle.std.proofs.Common.{rules, inl, inr, ⊎_elim, ℕ, ◌+◌, ◌<◌, List, [], ◌∷◌, ◌++◌, length, drop, sym, ◌∙◌, ap, subst, arith, length-append, Result, Ok, Err}
 use Rattle.std.specs.Prelude.{IsErrOf}
+use Rattle.std.proofs.lemmas.Bool.Decides.{nat_tests}
 use Rattle.cq_disk.specs.Region.{part}
 use Rattle.cq_records.specs.declared.fault.ReadFault.TheVariants.{Damaged}
 use Rattle.cq_journal.specs.Journal.{journal_places}
 use Rattle.cq_journal.proofs.RegionLists.{region_here, regions_long}
-use Rattle.cq_records.specs.Frames.{frames, records, joined, all_sound}
-use Rattle.cq_journal.proofs.Refused.{not_both, region_sound}
+use Rattle.cq_records.specs.Frames.{frames, is_closed, records, joined, all_sound, HasMore, IsDamaged}
+use Rattle.cq_journal.specs.declared.fault.RegionFault.{RegionFault}
+use Rattle.cq_journal.specs.declared.fault.RegionFault.TheVariants as faults
+use Rattle.cq_journal.proofs.Refused.{not_both, region_closed, region_sound}
 use Rattle.cq_journal.proofs.journal.Journal.read_region.Goals as goal
 
 pub place_of-place-requires-clause-index : goal.place_of-place-requires-clause-index
@@ -31,11 +34,48 @@ returns-in-Ok-clause-count g c = λ honest.
     c.in-Ok.ensures.count honest
     ∙ (ap (λ (n : ℕ). length (records (part n j.len bytes))) c.place_of-place.ensures.place ∙ ap (λ (rs : List (List ℕ)). length rs) (sym (region_here j.len (journal_places j) c.args.index bytes below)))
 
+pub returns-in-Ok-clause-closed : goal.returns-in-Ok-clause-closed
+returns-in-Ok-clause-closed g c = λ honest below.
+    let j = c.args.self.now in
+    let bytes = g.D.Device.seen j.root.log.device.device in
+    let before : c.args.index < c.len.result = omega (arith, below, regions_long j.len (journal_places j) bytes, length-append j.closed.items (j.growing ∷ []), c.len.ensures) in
+    ap (λ (p : ℕ). is_closed (part p j.len bytes)) (sym c.place_of-place.ensures.place) ∙ c.in-Ok.ensures.closed honest (grind (arith, nat_tests, before))
+
+-- the place that is told
+abbrev told : Result ℕ RegionFault → ℕ
+told (Ok count) = 0
+told (Err (faults.Damaged place)) = place
+told (Err faults.NoMemory) = 0
+told (Err faults.Failed) = 0
+
+pub returns-in-Err-Damaged-clause-damaged : goal.returns-in-Err-Damaged-clause-damaged
+returns-in-Err-Damaged-clause-damaged g c = λ place is honest.
+    let j = c.args.self.now in
+    let bytes = g.D.Device.seen j.root.log.device.device in
+    let at = c.read_place.new.at in
+    let here = c.place_of-place.ensures.place in
+    let damaged : IsErrOf c.read_place.result Damaged = search rules in
+    record {
+      at = at;
+      is = sym (ap told is) ∙ ap (λ (p : ℕ). p + at) here;
+      damaged = ⊎_elim
+          (λ it. inl (subst (λ (p : ℕ). IsDamaged (drop at (part p j.len bytes))) here it))
+          (λ more. inr (grind (arith, nat_tests, more.0), subst (λ (p : ℕ). HasMore at (part p j.len bytes)) here more.1))
+          (c.read_place.ensures.damaged damaged honest);
+    }
+
 pub returns-in-Err-Damaged-clause-refused : goal.returns-in-Err-Damaged-clause-refused
 returns-in-Err-Damaged-clause-refused g c = λ place is honest i.
     let j = c.args.self.now in
     let bytes = g.D.Device.seen j.root.log.device.device in
     let below : c.args.index < length (journal_places j) = omega (arith, c.requires.index, regions_long j.len (journal_places j) bytes) in
     let damaged : IsErrOf c.read_place.result Damaged = search rules in
-    not_both (region_sound j c.requires.has_regions (c.read_place.ensures.rests.honest honest) i c.args.index below)
-    (sym (ap (λ (p : ℕ). all_sound (frames (part p j.len bytes))) c.place_of-place.ensures.place) ∙ c.read_place.ensures.unsound damaged honest)
+    let honest_old = c.read_place.ensures.rests.honest honest in
+    ⊎_elim
+    (λ unsound.
+    not_both (region_sound j c.requires.has_regions honest_old i c.args.index below)
+    (sym (ap (λ (p : ℕ). all_sound (frames (part p j.len bytes))) c.place_of-place.ensures.place) ∙ unsound))
+    (λ more.
+    not_both (region_closed j c.requires.has_regions honest_old i c.args.index (grind (arith, nat_tests, more.0)))
+    (sym (ap (λ (p : ℕ). is_closed (part p j.len bytes)) c.place_of-place.ensures.place) ∙ more.1))
+    (c.read_place.ensures.unsound damaged honest)

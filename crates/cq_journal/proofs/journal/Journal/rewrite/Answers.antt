@@ -170,7 +170,7 @@ returns-in_err-put_in_both-clause-intact g c = λ now i.
     let at = intact_at j q (c.put_in_both.ensures.honest now) i in
     let text_is : c.deref-3.result.now ≡ places_text bs = c.deref-3.ensures.value ∙ c.in_ok-text.ensures ∙ ap (λ (xs : List ℕ). places_text (xs ++ b.growing ∷ [])) c.deref.ensures.value in
     let named : (f : List ℕ) → IsOldOrPut h old c.deref-3.result.now f → IsIntact h j.len f = λ f either.
-    named_intact h j.len n j.closed.items j.growing old at either.0 b.closed.items b.growing either.1 base.small base.behind base.within base.alone base.sound f
+    named_intact h j.len n j.closed.items j.growing old at either.0 b.closed.items b.growing either.1 base.small base.behind base.within base.alone base.sound base.closed_logs f
     (subst (λ (text : List ℕ). IsOldOrNew h old (numbered either.0 text) f) text_is either.2) in
     weakened d.moment d.left_since device c.put_in_both.new.self.log.device.device _ (IsIntact h j.len) (c.put_in_both.ensures.any_moment now) named
 
@@ -189,7 +189,7 @@ returns-clause-intact g c = λ now i.
     let at = intact_at j q (c.put_in_both.ensures.honest now) i in
     let text_is : c.deref-3.result.now ≡ places_text bs = c.deref-3.ensures.value ∙ c.in_ok-text.ensures ∙ ap (λ (xs : List ℕ). places_text (xs ++ b.growing ∷ [])) c.deref.ensures.value in
     let named : (f : List ℕ) → IsOldOrPut h old c.deref-3.result.now f → IsIntact h j.len f = λ f either.
-    named_intact h j.len n j.closed.items j.growing old at either.0 b.closed.items b.growing either.1 base.small base.behind base.within base.alone base.sound f
+    named_intact h j.len n j.closed.items j.growing old at either.0 b.closed.items b.growing either.1 base.small base.behind base.within base.alone base.sound base.closed_logs f
     (subst (λ (text : List ℕ). IsOldOrNew h old (numbered either.0 text) f) text_is either.2) in
     weakened d.moment d.left_since device c.put_in_both.new.self.log.device.device _ (IsIntact h j.len) (c.put_in_both.ensures.any_moment now) named
 
@@ -208,6 +208,6 @@ returns-clause-stays g c = λ now i.
     let at = intact_at j q (c.put_in_both.ensures.honest now) i in
     let text_is : c.deref-3.result.now ≡ places_text bs = c.deref-3.ensures.value ∙ c.in_ok-text.ensures ∙ ap (λ (xs : List ℕ). places_text (xs ++ b.growing ∷ [])) c.deref.ensures.value in
     let named : (f : List ℕ) → IsOldOrPut h old c.deref-3.result.now f → IsIntact h j.len f = λ f either.
-    named_intact h j.len n j.closed.items j.growing old at either.0 b.closed.items b.growing either.1 base.small base.behind base.within base.alone base.sound f
+    named_intact h j.len n j.closed.items j.growing old at either.0 b.closed.items b.growing either.1 base.small base.behind base.within base.alone base.sound base.closed_logs f
     (subst (λ (text : List ℕ). IsOldOrNew h old (numbered either.0 text) f) text_is either.2) in
     named (d.seen c.put_in_both.new.self.log.device.device) (c.in_ok-put_in_both.ensures.shown now)

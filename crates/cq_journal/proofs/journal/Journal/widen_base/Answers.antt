@@ -1,5 +1,7 @@
 -- A base goes on in a blank region.
-use Rattle.std.proofs.Common.{◌≡◌, ℕ, ◌+◌, ◌<◌, ◌≤◌, List, [], ◌∷◌, ◌++◌, length, refl, sym, ◌∙◌, ap, subst, arith, length-append}
+use Rattle.std.proofs.Common.{◌≡◌, ℕ, ◌+◌, ◌<◌, ◌≤◌, true, List, [], ◌∷◌, ◌++◌, length, refl, sym, ◌∙◌, ap, subst, arith, length-append}
+use Rattle.cq_disk.specs.Region.{part}
+use Rattle.cq_records.specs.Frames.{is_closed}
 use Rattle.cq_disk.proofs.Moments.{started}
 use Rattle.cq_journal.specs.Base.{base_places}
 use Rattle.cq_journal.specs.declared.number.TheConstants.{NUMBER_LIMIT}
@@ -9,7 +11,7 @@ use Rattle.std.proofs.Common.{rules}
 use Rattle.std.specs.Prelude.{IsErrOf}
 use Rattle.cq_records.specs.declared.fault.LogFault.TheVariants.{Full as LogFull}
 use Rattle.cq_journal.proofs.Bases.{base_still, base_records_still, free_outside, base_made, records_widened}
-use Rattle.cq_journal.proofs.Moves.{blank_log}
+use Rattle.cq_journal.proofs.Moves.{blank_log, log_closed}
 use Rattle.cq_journal.proofs.Regions.{each_more, kept_of}
 use Rattle.cq_journal.proofs.Intact.{rests_intact}
 use Rattle.cq_journal.proofs.journal.Journal.widen_base.Goals as goal
@@ -59,6 +61,8 @@ returns-clause-base g c =
     (each_more (λ n. AreApart j.len n p) b.closed.items b.growing found.apart found.apart_growing)
     (omega (arith, length-append ns (p ∷ []), length-append b.closed.items (b.growing ∷ []), found.few))
     q.sound
+    (each_more (λ n. is_closed (part n j.len (g.D.Device.seen j.root.log.device.device)) ≡ true) b.closed.items b.growing q.closed_logs
+    (log_closed (part b.growing j.len (g.D.Device.seen j.root.log.device.device)) b.end q.log))
     (blank_log j.len _ done.zeros)
 
 pub returns-clause-same : goal.returns-clause-same

@@ -1,10 +1,8 @@
 -- A root that is put into one half, and then into the other one.
-use Rattle.std.proofs.Common.{◌≡◌, ℕ, ◌+◌, ◌<◌, List, ap, subst}
+use Rattle.std.proofs.Common.{◌≡◌, ℕ, ◌+◌, List, subst}
 use Rattle.std.proofs.lemmas.Result.{on_ok_weaker}
-use Rattle.std.specs.Prelude.{Some, IsTrue}
-use Rattle.cq_disk.specs.Device.{LeavesOnly}
+use Rattle.std.specs.Prelude.{Some}
 use Rattle.cq_disk.proofs.Moments.{weakened, runs_on}
-use Rattle.cq_journal.specs.declared.number.TheConstants.{NUMBER_LIMIT}
 use Rattle.cq_journal.specs.Roots.{root_of, numbered, IsOldOrNew, IsOldOrPut}
 use Rattle.cq_journal.proofs.Puts.{put_once, put_again}
 use Rattle.cq_journal.proofs.root.Root.put_in_both.Goals as goal

@@ -6,13 +6,13 @@ use Rattle.cq_disk.proofs.Moments.{weakened}
 use Rattle.cq_disk.proofs.Parts.{alone, whole_again}
 use Rattle.cq_journal.specs.Roots.{number_in, half_of}
 use Rattle.cq_journal.proofs.Halves.{only_on}
-use Rattle.cq_journal.proofs.root.Root.read_texts_at.Goals as goal
+use Rattle.cq_journal.proofs.root.Root.read_log_at.Goals as goal
 
 pub returns-clause-seen : goal.returns-clause-seen
 returns-clause-seen g c =
     let r = c.args.self.now in
-    let n = c.read_texts-done.new.device in
-    let e = c.read_texts-done.ensures in
+    let n = c.read_log-done.new.device in
+    let e = c.read_log-done.ensures in
     let k = e.keeps in
     let p = c.args.place in
     let l = c.args.len in
@@ -24,8 +24,8 @@ returns-clause-root g c =
     let d = g.D.Device in
     let r = c.args.self.now in
     let q = c.requires.root in
-    let n = c.read_texts-done.new.device in
-    let e = c.read_texts-done.ensures in
+    let n = c.read_log-done.new.device in
+    let e = c.read_log-done.ensures in
     let k = e.keeps in
     let p = c.args.place in
     let l = c.args.len in
@@ -49,8 +49,8 @@ pub returns-clause-any_moment : goal.returns-clause-any_moment
 returns-clause-any_moment g c =
     let d = g.D.Device in
     let device = c.args.self.now.log.device.device in
-    let n = c.read_texts-done.new.device in
-    let e = c.read_texts-done.ensures in
+    let n = c.read_log-done.new.device in
+    let e = c.read_log-done.ensures in
     let p = c.args.place in
     let l = c.args.len in
     let P : List ℕ → Type 0 = λ x. x ≡ part p l (d.seen device) in
@@ -63,8 +63,8 @@ returns-clause-any_moment g c =
 pub invariant_of-self-5 : goal.invariant_of-self-5
 invariant_of-self-5 g c =
     let r = c.args.self.now in
-    let n = c.read_texts-done.new.device in
-    let e = c.read_texts-done.ensures in
+    let n = c.read_log-done.new.device in
+    let e = c.read_log-done.ensures in
     let k = e.keeps in
     let p = c.args.place in
     let l = c.args.len in
@@ -76,8 +76,8 @@ invariant_of-self-5 g c =
 pub invariant_of-self-6 : goal.invariant_of-self-6
 invariant_of-self-6 g c =
     let r = c.args.self.now in
-    let n = c.read_texts-done.new.device in
-    let e = c.read_texts-done.ensures in
+    let n = c.read_log-done.new.device in
+    let e = c.read_log-done.ensures in
     let k = e.keeps in
     let p = c.args.place in
     let l = c.args.len in
