@@ -142,10 +142,14 @@ fn next_row(known: Option<&Row>, beat: &Beat, contact: Duration) -> Option<Row> 
     })
 }
 
-/// That gateways end there again and again, by one beat.
+/// That gateways end there again and again, by one beat. What a trial of its options said tells more than how one ended.
 fn failure(beat: &Beat) -> Option<Fault> {
     let failing = beat.failing.as_ref().filter(|failing| failing.times >= LEAST_ENDS)?;
-    (beat.gateway != Some(GatewayPhase::Acts)).then(|| Fault::Fails(failing.why.clone()))
+    let why = match &beat.readiness {
+        Some(Readiness::Unready(why)) => why,
+        _ => &failing.why,
+    };
+    (beat.gateway != Some(GatewayPhase::Acts)).then(|| Fault::Fails(why.clone()))
 }
 
 /// Whether no front reaches the port of the head's gateway, and one reaches that of a server that may take its place. So that one
@@ -283,6 +287,16 @@ mod tests {
         assert_eq!(looks.fault(), None);
         looks.look(1, &mut step);
         assert_eq!(looks.fault(), Some(Fault::Fails("no keys".into())));
+    }
+
+    #[test]
+    fn what_a_trial_says_tells_more_than_how_a_gateway_ended() {
+        let (gateway, failing) = (Some(GatewayPhase::Begins), failing(LEAST_ENDS));
+        let unready = Some(Readiness::Unready("keys.toml has none".into()));
+        let beat = Beat { gateway, failing, readiness: unready, ..Looks::new().beats[&1].clone() };
+        assert_eq!(failure(&beat), Some(Fault::Fails("keys.toml has none".into())));
+        let beat = Beat { readiness: Some(Readiness::Ready), ..beat };
+        assert_eq!(failure(&beat), Some(Fault::Fails("no keys".into())));
     }
 
     #[test]
