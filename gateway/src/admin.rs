@@ -15,7 +15,7 @@ use tokio::net::TcpListener;
 use tokio::sync::Semaphore;
 
 use crate::budget::Share;
-use crate::http::{is_of_this_machine, to_be_written, Hosts, Progress, Watched, LONGEST_HEAD};
+use crate::http::{to_be_written, Hosts, Progress, Watched, LONGEST_HEAD};
 use crate::metrics::{Counts, Metrics};
 use crate::peek::{self, Peeks};
 use crate::queues::ask::Outcome;
@@ -73,37 +73,33 @@ pub struct Admin {
     pub metrics: Arc<Metrics>,
     /// Where messages may be looked at.
     pub peeks: Option<Peeks>,
+    /// By which names bodies of messages may be asked for. Health and figures are told by any name.
+    pub hosts: Hosts,
     /// There once the journal is replayed.
     pub store: OnceLock<Store>,
 }
 
 /// Serves operators for as long as the process lives, so many connections at once. More wait until these have ended. `answer` tells
 /// the answer to a request, and what that counts, if it does.
-pub async fn serve_operators<F, A>(listener: TcpListener, most: u32, hosts: Hosts, answer: F)
+pub async fn serve_operators<F, A>(listener: TcpListener, most: u32, answer: F)
 where
     F: Fn(Request<Body>) -> A + Clone + Send + Sync + 'static,
     A: Future<Output = (Response<Bytes>, Option<Arc<Share>>)> + Send,
 {
     let places = Arc::new(Semaphore::new(most as usize));
-    // What other machines reach is read by them without a browser's help.
-    let is_near = listener.local_addr().map_or(true, |address| is_of_this_machine(address.ip()));
-    let hosts = Arc::new(hosts);
     while let Ok(place) = places.clone().acquire_owned().await {
         let Ok((stream, _)) = listener.accept().await else {
             tokio::time::sleep(PAUSE).await;
             continue;
         };
-        let (hosts, answer) = (hosts.clone(), answer.clone());
+        let answer = answer.clone();
         let progress = Progress::new(LONGEST_REQUEST).with_idle(LONGEST_IDLE);
         let stream = Watched::new(stream, progress.clone());
         let handle = service_fn(move |request: Request<Body>| {
-            let (hosts, answer, progress) = (hosts.clone(), answer.clone(), progress.clone());
+            let (answer, progress) = (answer.clone(), progress.clone());
             async move {
                 progress.is_read();
-                let (response, share) = match hosts.test(request.uri(), request.headers()) {
-                    Err(error) if is_near => (text(StatusCode::FORBIDDEN, format!("{error}\n")), None),
-                    _ => answer(request).await,
-                };
+                let (response, share) = answer(request).await;
                 progress.answers(response.body().len() as u64);
                 Ok::<_, Infallible>(match share {
                     Some(share) => to_be_written(response, &share),
@@ -125,18 +121,21 @@ where
 
 impl Admin {
     /// Serves for as long as the process lives, so many connections at once.
-    pub async fn serve(self: Arc<Admin>, listener: TcpListener, most: u32, hosts: Hosts) {
+    pub async fn serve(self: Arc<Admin>, listener: TcpListener, most: u32) {
         let answer = move |request: Request<Body>| {
             let admin = self.clone();
             async move { admin.answer(&request).await }
         };
-        serve_operators(listener, most, hosts, answer).await;
+        serve_operators(listener, most, answer).await;
     }
 
     /// The answer to a request, and what it counts, if it does.
     async fn answer(&self, request: &Request<Body>) -> (Response<Bytes>, Option<Arc<Share>>) {
         let is_read = matches!(*request.method(), Method::GET | Method::HEAD);
         if is_read && request.uri().path().starts_with(peek::PATH) {
+            if let Err(error) = self.hosts.test(request.uri(), request.headers()) {
+                return (text(StatusCode::FORBIDDEN, format!("{error}\n")), None);
+            }
             return self.answer_peek(request.uri(), request.headers()).await;
         }
         (self.answer_get(request).await, None)

@@ -96,7 +96,7 @@ pub fn main() -> i32 {
         }
         Err(error) => {
             let is_broken_pipe = error.downcast_ref::<io::Error>().map(io::Error::kind);
-            let said = format!("hobbychair: {error:#}");
+            let said = log::escaped(&format!("hobbychair: {error:#}"));
             log::end((is_broken_pipe != Some(io::ErrorKind::BrokenPipe)).then_some(&said));
             if error.is::<Misuse>() {
                 2

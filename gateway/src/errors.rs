@@ -90,6 +90,12 @@ pub enum SqsError {
     /// A page in a browser sent it, and nobody asks for keys.
     #[error("Requests of pages in browsers aren't served without --credentials, and this one comes from {0}.")]
     OtherSite(String),
+    /// All of it may stand in a link, and nobody asks for keys.
+    #[error(
+        "Without --credentials a GET may be a link that somebody has followed, or a picture of a page, so it doesn't do {0}: \
+         send it as a POST."
+    )]
+    MayBeLink(&'static str),
     /// It names a host that isn't the gateway's, and nobody asks for keys.
     #[error(
         "The gateway isn't known as {0}. Without --credentials it is reached by an address, as localhost, under --url, \
@@ -210,9 +216,10 @@ impl SqsError {
                 ("com.amazon.coral.service#InvalidSignatureException", "SignatureDoesNotMatch", 403)
             }
             SqsError::RequestExpired => ("com.amazon.coral.service#RequestExpired", "RequestExpired", 403),
-            SqsError::AccessDenied { .. } | SqsError::OtherSite(_) | SqsError::UnknownHost(_) => {
-                ("com.amazon.coral.service#AccessDeniedException", "AccessDenied", 403)
-            }
+            SqsError::AccessDenied { .. }
+            | SqsError::MayBeLink(_)
+            | SqsError::OtherSite(_)
+            | SqsError::UnknownHost(_) => ("com.amazon.coral.service#AccessDeniedException", "AccessDenied", 403),
         };
         Coded { type_name, code, status }
     }

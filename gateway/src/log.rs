@@ -107,20 +107,40 @@ fn one_line(line: &[u8]) -> Vec<u8> {
     let line = line.strip_suffix(b"\n").unwrap_or(line);
     let line = String::from_utf8_lossy(&line[..line.len().min(LONGEST_LINE)]);
     let mut one = String::with_capacity(line.len() + 1);
-    for character in line.chars() {
-        if character.is_control() {
-            one.push_str(&format!("\\u{:04x}", u32::from(character)));
-        } else {
-            one.push(character);
-        }
-    }
+    line.chars().for_each(|character| push_escaped(&mut one, character));
     one.push('\n');
     one.into_bytes()
+}
+
+/// The text with no control character but line feeds: what a file or a client said may stand in it, and does nothing to a terminal. The
+/// escapes are those of JSON.
+pub fn escaped(text: &str) -> String {
+    let mut escaped = String::with_capacity(text.len());
+    for character in text.chars() {
+        match character {
+            '\n' => escaped.push(character),
+            _ => push_escaped(&mut escaped, character),
+        }
+    }
+    escaped
+}
+
+fn push_escaped(text: &mut String, character: char) {
+    if character.is_control() {
+        text.push_str(&format!("\\u{:04x}", u32::from(character)));
+    } else {
+        text.push(character);
+    }
 }
 
 #[cfg(test)]
 mod tests {
     use super::*;
+
+    #[test]
+    fn a_terminal_is_told_nothing_but_text() {
+        assert_eq!(escaped("unknown field `\x1b[2J\x1b]0;owned\x07é`\nline 2\x7f\u{9b}"), "unknown field `\\u001b[2J\\u001b]0;owned\\u0007é`\nline 2\\u007f\\u009b");
+    }
 
     #[test]
     fn a_line_stays_one() {

@@ -7,6 +7,7 @@ use std::time::Duration;
 use tokio::sync::oneshot;
 use tokio::time::Instant;
 
+use crate::budget::Share;
 use crate::deliveries::{ask_all, see_to, Seen};
 use crate::ending::Ending;
 use crate::errors::SqsError;
@@ -30,11 +31,30 @@ impl Room {
     }
 }
 
+/// What a receive keeps of the memory of requests. While it waits that is the request alone.
+pub struct AnswerMemory {
+    pub share: Arc<Share>,
+    /// In bytes.
+    pub request: usize,
+}
+
+impl AnswerMemory {
+    /// Takes what the answer to a receive of so many messages may keep. False if that isn't there, and then it has what it had.
+    fn take(&self, queue: &Queue, size: u8) -> bool {
+        self.share.try_set(self.request + queue.state().most_handed(size))
+    }
+
+    fn give_back(&self) {
+        self.share.set(self.request);
+    }
+}
+
 /// A receive that waits.
 struct Poll {
     number: u64,
     ask: Ask,
     room: Room,
+    memory: AnswerMemory,
     presence: Presence,
     deadline: Instant,
     done: oneshot::Sender<PollResult>,
@@ -46,6 +66,14 @@ impl Poll {
         match &self.ask {
             Ask::Receive { size, .. } => self.room.test(queue, *size),
             _ => Ok(()),
+        }
+    }
+
+    /// Takes the memory that its answer may keep. False if that isn't there.
+    fn takes_memory(&self, queue: &Queue) -> bool {
+        match &self.ask {
+            Ask::Receive { size, .. } => self.memory.take(queue, *size),
+            _ => true,
         }
     }
 
@@ -72,6 +100,7 @@ pub struct Waiter {
     pub presence: Presence,
     pub time: Duration,
     pub room: Room,
+    pub memory: AnswerMemory,
     /// The end of the gateway is the end of the wait.
     pub ending: Ending,
 }
@@ -81,6 +110,9 @@ const MOST_AT_ONCE: u64 = 64;
 
 /// So often a poll whose time is up looks whether it is still being tried.
 const LOOK_AGAIN: Duration = Duration::from_millis(20);
+
+/// So often polls are tried again for which there was no memory.
+const LOOK_FOR_MEMORY: Duration = Duration::from_millis(100);
 
 /// How long a served queue whose polls have all gone is watched at most before the task looks again.
 const LONGEST_WATCH: Duration = Duration::from_secs(20);
@@ -106,6 +138,7 @@ impl Polls {
     }
 
     fn put_back(&self, poll: Poll) {
+        poll.memory.give_back();
         self.waiting().polls.push_front(poll);
     }
 
@@ -131,7 +164,7 @@ impl Polls {
 /// `seen` is how many openings the receive had seen that came back empty. A queue that is removed meanwhile is
 /// `QueueDoesNotExist`.
 pub async fn wait(store: &Store, queue: &Arc<Queue>, ask: Ask, waiter: Waiter, seen: u64) -> PollResult {
-    let Waiter { presence, time, room, ending } = waiter;
+    let Waiter { presence, time, room, memory, ending } = waiter;
     if ending.has_come() {
         return Ok(Vec::new());
     }
@@ -141,7 +174,7 @@ pub async fn wait(store: &Store, queue: &Arc<Queue>, ask: Ask, waiter: Waiter, s
         let mut waiting = queue.polls.waiting();
         waiting.last_number += 1;
         let number = waiting.last_number;
-        waiting.polls.push_back(Poll { number, ask, room, presence, deadline, done });
+        waiting.polls.push_back(Poll { number, ask, room, memory, presence, deadline, done });
         if !waiting.is_served {
             waiting.is_served = true;
             tokio::spawn(serve(store.clone(), queue.clone(), ending));
@@ -173,15 +206,23 @@ pub async fn wait(store: &Store, queue: &Arc<Queue>, ask: Ask, waiter: Waiter, s
 /// them are answered.
 async fn serve(store: Store, queue: Arc<Queue>, mut ending: Ending) {
     let mut seen = queue.state().openings;
+    let mut lacks_memory = false;
     while queue.polls.goes_on() {
         tokio::select! {
             () = wait_for_opening(&store, &queue) => {}
+            () = tokio::time::sleep(LOOK_FOR_MEMORY), if lacks_memory => {}
             () = ending.comes() => queue.polls.let_go(),
         }
         let openings = queue.state().openings;
         let news = openings.wrapping_sub(seen).clamp(1, MOST_AT_ONCE);
         seen = openings;
-        while try_some(&store, &queue, news).await {}
+        lacks_memory = loop {
+            match try_some(&store, &queue, news).await {
+                Tried::AllHanded => {}
+                Tried::NotAll => break false,
+                Tried::LacksMemory => break true,
+            }
+        };
     }
 }
 
@@ -216,11 +257,36 @@ fn with_room(queue: &Queue, polls: Vec<Poll>) -> Vec<Poll> {
     fitting
 }
 
-/// Tries the first polls, and tells whether all of them were handed something, be it for the gateway to see to.
-async fn try_some(store: &Store, queue: &Arc<Queue>, count: u64) -> bool {
-    let polls = with_room(queue, queue.polls.take(count));
+/// Those polls, from the first one on, whose answers find memory. The others go on waiting: they have been handed nothing. True if
+/// there are some.
+fn with_memory(queue: &Queue, polls: Vec<Poll>) -> (Vec<Poll>, bool) {
+    let (mut fitting, mut others) = (Vec::with_capacity(polls.len()), Vec::new());
+    for poll in polls {
+        if others.is_empty() && poll.takes_memory(queue) {
+            fitting.push(poll);
+        } else {
+            others.push(poll);
+        }
+    }
+    let lacks_memory = !others.is_empty();
+    others.into_iter().rev().for_each(|poll| queue.polls.put_back(poll));
+    (fitting, lacks_memory)
+}
+
+/// What came of a try of the first polls.
+enum Tried {
+    /// Each was handed something, be it for the gateway to see to.
+    AllHanded,
+    NotAll,
+    /// The memory of requests hasn't room for the answers of all.
+    LacksMemory,
+}
+
+/// Tries the first polls.
+async fn try_some(store: &Store, queue: &Arc<Queue>, count: u64) -> Tried {
+    let (polls, lacks_memory) = with_memory(queue, with_room(queue, queue.polls.take(count)));
     if polls.is_empty() {
-        return false;
+        return if lacks_memory { Tried::LacksMemory } else { Tried::NotAll };
     }
     let asks = polls.iter().map(|poll| poll.ask.clone()).collect();
     let answers = ask_all(store, queue, asks).await;
@@ -252,5 +318,9 @@ async fn try_some(store: &Store, queue: &Arc<Queue>, count: u64) -> bool {
             }
         }
     }
-    all_handed
+    match (lacks_memory, all_handed) {
+        (true, _) => Tried::LacksMemory,
+        (false, true) => Tried::AllHanded,
+        (false, false) => Tried::NotAll,
+    }
 }

@@ -158,12 +158,13 @@ async fn prepare(settings: Arc<Settings>) -> Result<Prepared> {
         health: Arc::new(Health::default()),
         metrics: Arc::new(Metrics::new()?),
         peeks: settings.peek.then(|| Peeks::new(settings.owner.clone())),
+        hosts: settings.hosts(),
         store: OnceLock::new(),
     });
     match &settings.admin {
         Some(address) if !settings.only_prepares => {
             let listener = listen_for_operators(address)?;
-            tokio::spawn(admin.clone().serve(listener, places.operators, settings.hosts()));
+            tokio::spawn(admin.clone().serve(listener, places.operators));
         }
         Some(Address { host, port }) if !settings.beside_another => {
             test_free(host, *port).with_context(|| format!("can't listen on {host}:{port} for operators"))?;

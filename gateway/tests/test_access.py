@@ -2,6 +2,8 @@
 
 from __future__ import annotations
 
+import http.client
+import itertools
 import os
 import shutil
 import signal
@@ -215,7 +217,82 @@ def test_no_page_commands_a_gateway_without_keys(headers):
                 assert status == 403 and b"<Code>AccessDenied</Code>" in answer
         assert call("ReceiveMessage", QueueUrl="q")["Messages"][0]["Body"] == "b"
         admin = next(line.split()[-1] for line in gateway.said if line.startswith("health and metrics on "))
-        assert status_of(admin + "/metrics", headers)[0] == 403 and status_of(admin + "/metrics", {})[0] == 200
+        assert status_of(admin + "/metrics", headers)[0] == status_of(admin + "/metrics", {})[0] == 200
+    finally:
+        assert gateway.stop() == 0
+
+
+LINKS = ["Action=CreateQueue&QueueName=made", "Action=DeleteQueue&QueueUrl=q", "Action=PurgeQueue&QueueUrl=q",
+         "Action=SendMessage&QueueUrl=q&MessageBody=x", "Action=ReceiveMessage&QueueUrl=q",
+         "Action=ChangeMessageVisibility&QueueUrl=q&ReceiptHandle=a&VisibilityTimeout=0", "Action=DeleteMessage&QueueUrl=q&ReceiptHandle=a",
+         "Action=SetQueueAttributes&QueueUrl=q&Attribute.Name=DelaySeconds&Attribute.Value=9", "Action=TagQueue&QueueUrl=q&Tag.Key=a&Tag.Value=b",
+         "Action=UntagQueue&QueueUrl=q&TagKey=a", "Action=StartMessageMoveTask&SourceArn=a", "Action=CancelMessageMoveTask&TaskHandle=a",
+         "Action=SendMessageBatch&QueueUrl=q&Entry.Id=a&Entry.MessageBody=x", "Action=DeleteMessageBatch&QueueUrl=q&Entry.Id=a&Entry.ReceiptHandle=a",
+         "Action=ChangeMessageVisibilityBatch&QueueUrl=q&Entry.Id=a&Entry.ReceiptHandle=a&Entry.VisibilityTimeout=0",
+         "Action=AddPermission&QueueUrl=q&Label=a&AWSAccountId=1&ActionName=SendMessage", "Action=RemovePermission&QueueUrl=q&Label=a"]
+
+MADE_UP = "&X-Amz-Algorithm=AWS4-HMAC-SHA256&X-Amz-Credential=A%2F20150830%2Fus-east-1%2Fsqs%2Faws4_request&X-Amz-Signature=00"
+
+
+def asked(port: int, method: str, target: str, headers: dict[str, str]) -> tuple[int, bytes, str | None]:
+    connection = http.client.HTTPConnection("127.0.0.1", port, timeout=20)
+    try:
+        connection.request(method, target, headers=headers)
+        answer = connection.getresponse()
+        return answer.status, answer.read(), answer.getheader("Allow")
+    finally:
+        connection.close()
+
+
+@pytest.mark.parametrize("words", [(), ("--open", "--host", "0.0.0.0")], ids=["this machine", "open"])
+def test_no_link_commands_a_gateway_without_keys(words):
+    """Browsers say nothing of a picture's GET to an address that isn't this machine's, and that nobody asked for a link in a mail."""
+    gateway = Started("--no-pauses", "--allowed-hosts", "queues", *words)
+    port = int(gateway.url.rsplit(":", 1)[1])
+    try:
+        call = ByJson(f"http://127.0.0.1:{port}")
+        call("CreateQueue", QueueName="q")
+        call("SendMessage", QueueUrl="q", MessageBody="b")
+        before = call("GetQueueAttributes", QueueUrl="q", AttributeNames=["All"])
+        ways = [{}, {"Sec-Fetch-Site": "none"}, {"Authorization": "Basic QTpi"}, {"X-Amz-Date": "20150830T123600Z"}]
+        for link, host, more, method in itertools.product(LINKS, (f"127.0.0.1:{port}", "queues", "localhost"), ways, ("GET", "HEAD")):
+            for sign in ("", MADE_UP):
+                status, answer, _ = asked(port, method, f"/?{link}{sign}", {"Host": host, **more})
+                assert status == 403 and (method == "HEAD" or b"send it as a POST" in answer), (link, host, more)
+        assert call("GetQueueAttributes", QueueUrl="q", AttributeNames=["All"]) == before
+        assert call("ListQueues")["QueueUrls"] and len(call("ListQueues")["QueueUrls"]) == 1
+        for method in ("PUT", "DELETE", "PATCH", "OPTIONS", "TRACE", "POSTS"):
+            assert asked(port, method, f"/?{LINKS[0]}", {"Host": "localhost"})[::2] == (405, "POST, GET, HEAD"), method
+        # What only tells is told, and what no page can send is done.
+        assert asked(port, "GET", "/?Action=ListQueues", {"Host": "localhost"})[0] == 200
+        request = AWSRequest("GET", f"http://127.0.0.1:{port}/?{LINKS[0]}", {})
+        SigV4Auth(Credentials("ANY", "any"), "sqs", "us-east-1").add_auth(request)
+        assert asked(port, "GET", f"/?{LINKS[0]}", {"Host": f"127.0.0.1:{port}", **dict(request.headers)})[0] == 200
+        assert call("ReceiveMessage", QueueUrl="q")["Messages"][0]["Body"] == "b"
+    finally:
+        assert gateway.stop() == 0
+
+
+def test_a_presigned_link_does_what_its_key_may(gateway):
+    admin = client(gateway, "ADMIN", SECRETS["ADMIN"])
+    url = admin.generate_presigned_url("create_queue", Params={"QueueName": "by-link"}, ExpiresIn=60, HttpMethod="GET")
+    assert status_of(url, {})[0] == 200
+    assert any(url.endswith("/by-link") for url in admin.list_queues()["QueueUrls"])
+
+
+def test_no_page_is_told_bodies_on_any_address():
+    gateway = Started("--no-pauses", "--peek", "--admin", "0.0.0.0:0")
+    try:
+        ByJson(gateway.url)("CreateQueue", QueueName="q")
+        admin = next(line.split()[-1] for line in gateway.said if line.startswith("health and metrics on "))
+        port = int(admin.rsplit(":", 1)[1])
+        target = "/_aws/sqs/messages?QueueUrl=q"
+        assert asked(port, "GET", target, {"Host": f"127.0.0.1:{port}"})[0] == asked(port, "GET", target, {"Host": "localhost"})[0] == 200
+        for headers in ({"Host": "evil.example"}, {"Host": "localhost", "Origin": "http://evil.example"},
+                        {"Host": "evil.example", "Origin": "http://evil.example", "Sec-Fetch-Site": "same-origin"}):
+            assert asked(port, "GET", target, headers)[0] == 403
+            for path in ("/health", "/metrics"):
+                assert asked(port, "GET", path, headers)[0] == 200
     finally:
         assert gateway.stop() == 0
 

@@ -10,6 +10,7 @@ import signal
 import socket
 import subprocess
 import threading
+import time
 from collections.abc import Callable
 from pathlib import Path
 from typing import Any
@@ -73,6 +74,26 @@ def at_once(works: list[Callable[[], Any]]) -> list[Any]:
     for thread in threads:
         thread.join()
     return results
+
+
+def test_what_polls_are_handed_counts_before_it_is_handed():
+    """A hundred polls whose clients read nothing, and messages that each of them may be handed: 800 MiB of answers."""
+    gateway = Started("--request-memory", "64MiB", "--memory", "64MiB", "--polls", "200", "--no-pauses")
+    try:
+        call = ByJson(gateway.url)
+        call("CreateQueue", QueueName="q")
+        poll = json.dumps({"QueueUrl": "q", "MaxNumberOfMessages": 10, "WaitTimeSeconds": 20, "VisibilityTimeout": 0}).encode()
+        polls = [begin(gateway, "ReceiveMessage", poll) for _ in range(100)]
+        time.sleep(2)
+        for _ in range(8):
+            call("SendMessage", QueueUrl="q", MessageBody="x" * (MEBIBYTE - 1000))
+        time.sleep(6)
+        assert peak(gateway) < 64 + 2 * 64 + 64
+        # Each of them is answered, as soon as those before it have gone or with nothing once its time is up.
+        assert [status_of(connection) for connection in polls] == [200] * 100
+        assert call("ReceiveMessage", QueueUrl="q")["Messages"]
+    finally:
+        assert gateway.stop() == 0
 
 
 def refused(gateway: Started, action: str, **members: Any) -> tuple[str, int, bytes]:

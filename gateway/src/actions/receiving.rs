@@ -11,7 +11,7 @@ use crate::errors::SqsError;
 use crate::handles::Handle;
 use crate::messages::{read_envelope, MessageAttributes, Metadata};
 use crate::parts;
-use crate::polling::{self, Room, Waiter};
+use crate::polling::{self, AnswerMemory, Room, Waiter};
 use crate::queues::ask::{Ask, Changer, Handed, Reach};
 use crate::queues::Queue;
 use crate::texts::{QueueKind, QueueName};
@@ -58,7 +58,8 @@ impl Actions {
             let _counted = self.metrics.poll();
             caller.share.set(request_bytes);
             let (presence, time) = (caller.presence.clone(), Duration::from_secs(wait));
-            let waiter = Waiter { presence, time, room, ending: self.ending.clone() };
+            let memory = AnswerMemory { share: caller.share.clone(), request: request_bytes };
+            let waiter = Waiter { presence, time, room, memory, ending: self.ending.clone() };
             // Receives that wait for nothing don't pay for its size.
             handed = Box::pin(polling::wait(&self.store, &queue, ask, waiter, openings)).await?;
         }

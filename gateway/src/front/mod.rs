@@ -35,7 +35,7 @@ use crate::budget::{Budget, Share};
 use crate::config::{Address, Misuse};
 use crate::ending::{End, Ending};
 use crate::errors::SqsError;
-use crate::http::{bodies, is_of_this_machine, listen, protocol_of, refused, to_be_written, Hosts, Places};
+use crate::http::{bodies, is_of_this_machine, listen, protocol_of, refused, to_be_written, Places};
 use crate::http::{Progress, Watched, LONGEST_HEAD};
 use crate::serve::{listen_for_operators, log_read_again, notify_supervisor, say};
 use crate::tls::{Certificate, LONGEST_HANDSHAKE};
@@ -105,7 +105,7 @@ pub async fn serve(settings: Settings) -> Result<()> {
     if let Some(listener) = operators {
         let told = Operators { figures: figures.clone(), follower: follower.clone(), contact: contact.clone() };
         let answer = move |request| std::future::ready((told.answer(&request), None));
-        tokio::spawn(serve_operators(listener, places.operators, Hosts::new(&[], None), answer));
+        tokio::spawn(serve_operators(listener, places.operators, answer));
     }
     let passing = Arc::new(Passing::new(follower.clone(), identity, figures.clone(), contact));
     tokio::spawn(passing.clone().keep_contact());

@@ -22,6 +22,7 @@ use std::io::{BufRead, Write};
 use anyhow::Result;
 
 use crate::config::Misuse;
+use crate::log;
 use finding::{Finding, Judged};
 use line::Line;
 use service::Service;
@@ -57,7 +58,8 @@ pub fn check(input: impl BufRead, out: &mut impl Write) -> Result<Told> {
             Ok(Judged::Not) => told.not_judged += 1,
             Err(finding) => {
                 told.is_refuted = true;
-                writeln!(out, "line {number}, {}: {finding}", line.action)?;
+                let said = format!("line {number}, {}: {finding}", line.action);
+                writeln!(out, "{}", log::escaped(&said))?;
                 return Ok(told);
             }
         }

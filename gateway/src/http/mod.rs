@@ -19,7 +19,7 @@ use bytes::Bytes;
 use hyper::header::{HeaderMap, HeaderName, HeaderValue, AUTHORIZATION, CONNECTION, CONTENT_TYPE};
 use hyper::http::request::Parts;
 use hyper::upgrade::OnUpgrade;
-use hyper::{Body, Request, Response, StatusCode};
+use hyper::{Body, Method, Request, Response, StatusCode};
 use tokio::time::Instant;
 use uuid::Uuid;
 
@@ -42,7 +42,7 @@ pub use connections::{listen, shared, test_free, Door};
 pub use places::Places;
 pub use reading::{incoming, signable, Unread};
 pub use visitor::Hosts;
-use visitor::KnownHost;
+use visitor::{may_be_link, KnownHost};
 pub use watched::{Progress, Watched};
 
 static TARGET: HeaderName = HeaderName::from_static("x-amz-target");
@@ -220,6 +220,7 @@ impl Connection {
         let protocol = protocol_of(&head.headers);
         let read = match body {
             _ if length_of_head(&head) > LONGEST_HEAD => Err(Unread::LongHead),
+            _ if ![Method::POST, Method::GET, Method::HEAD].contains(&head.method) => Err(Unread::Method),
             Ok(bytes) => self.clone().read(protocol, &head, &bytes, &mut log),
             Err(error) => Err(Unread::Refused { error, closes: true }),
         };
@@ -242,6 +243,9 @@ impl Connection {
         let request = protocol.read(&incoming)?;
         let action = request.action();
         log.action = Some(action);
+        if identity.is_none() && !action.only_reads() && may_be_link(&head.method, &head.headers) {
+            return Err(SqsError::MayBeLink(action.name()).into());
+        }
         if tracing::enabled!(tracing::Level::DEBUG) {
             log.queue = request.queue().cloned();
         }

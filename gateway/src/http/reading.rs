@@ -1,7 +1,7 @@
 //! What of an HTTP request says what is asked, and why it may not be read.
 
 use bytes::Bytes;
-use hyper::header::{HeaderValue, CONNECTION};
+use hyper::header::{HeaderValue, ALLOW, CONNECTION};
 use hyper::http::request::Parts;
 use hyper::{Response, StatusCode};
 use uuid::Uuid;
@@ -14,6 +14,8 @@ use crate::wire::{Incoming, Protocol};
 /// Why a request isn't performed.
 pub enum Unread {
     LongHead,
+    /// It is neither a POST nor a GET, nor a HEAD.
+    Method,
     NotFound,
     /// `closes`: the connection ends behind the refusal, since not all of the request was read.
     Refused {
@@ -33,6 +35,7 @@ impl Unread {
     pub fn response(&self, protocol: Protocol, request_id: Uuid) -> Response<Bytes> {
         match self {
             Unread::LongHead => too_long_a_head(),
+            Unread::Method => other_method(),
             Unread::NotFound => not_found(),
             Unread::Refused { error, closes } => refused(protocol, error, request_id, *closes),
         }
@@ -64,6 +67,13 @@ fn too_long_a_head() -> Response<Bytes> {
     let mut response = Response::new(Bytes::from_static(b"The head of a request has at most 32 KiB.\n"));
     *response.status_mut() = StatusCode::REQUEST_HEADER_FIELDS_TOO_LARGE;
     response.headers_mut().insert(CONNECTION, HeaderValue::from_static("close"));
+    response
+}
+
+fn other_method() -> Response<Bytes> {
+    let mut response = Response::new(Bytes::from_static(b"A request is a POST or a GET.\n"));
+    *response.status_mut() = StatusCode::METHOD_NOT_ALLOWED;
+    response.headers_mut().insert(ALLOW, HeaderValue::from_static("POST, GET, HEAD"));
     response
 }
 

@@ -3,8 +3,8 @@
 
 use std::sync::OnceLock;
 
-use hyper::header::{HeaderMap, HeaderName, HeaderValue, HOST, ORIGIN};
-use hyper::Uri;
+use hyper::header::{HeaderMap, HeaderName, HeaderValue, AUTHORIZATION, HOST, ORIGIN};
+use hyper::{Method, Uri};
 
 use crate::errors::SqsError;
 
@@ -22,6 +22,9 @@ const ANY: &str = "*";
 
 /// As many bytes a host has that is kept: the longest name, and a port.
 const LONGEST_KNOWN: usize = 260;
+
+/// What a signature in a header begins with. That of a link with a name and a password doesn't.
+const SIGNED: &[u8] = b"AWS4-HMAC-SHA256 ";
 
 static SEC_FETCH_SITE: HeaderName = HeaderName::from_static("sec-fetch-site");
 
@@ -81,6 +84,13 @@ impl Hosts {
         let is_named = || self.names.iter().any(|name| name.eq_ignore_ascii_case(host));
         self.any || is_address || host.eq_ignore_ascii_case("localhost") || is_named()
     }
+}
+
+/// Whether a link can be this request: it has no body, and no header that a page sends only once it was let in. Browsers don't say of
+/// each that a page asked for it. What a link says in its URL is no sign of anything, a signature there no more than a name.
+pub fn may_be_link(method: &Method, headers: &HeaderMap) -> bool {
+    let is_signed = |value: &HeaderValue| value.as_bytes().starts_with(SIGNED);
+    *method != Method::POST && !headers.get_all(AUTHORIZATION).iter().any(is_signed)
 }
 
 /// The host of an authority, without its port.
@@ -158,6 +168,21 @@ mod tests {
         assert_eq!(whole, Err(SqsError::UnknownHost("evil.example".into())));
         assert_eq!(tested(&hosts, "/", &[]), Ok(()), "a program of HTTP/1.0");
         assert_eq!(tested(&Hosts::new(&["*".into()], None), "/", &[("host", "any.example")]), Ok(()));
+    }
+
+    #[test]
+    fn a_link_has_no_body_and_no_signature_in_a_header() {
+        let tested = |method: Method, headers: &[(&'static str, &str)]| {
+            let headers = headers.iter().map(|(name, value)| (name.parse().unwrap(), value.parse().unwrap())).collect();
+            may_be_link(&method, &headers)
+        };
+        let signed = ("authorization", "AWS4-HMAC-SHA256 Credential=a/20150830/us-east-1/sqs/aws4_request");
+        for method in [Method::GET, Method::HEAD] {
+            assert!(tested(method.clone(), &[]) && tested(method.clone(), &[("authorization", "Basic YTpi")]));
+            assert!(tested(method.clone(), &[("x-amz-date", "20150830T123600Z"), ("authorization", "")]));
+            assert!(!tested(method, &[signed]));
+        }
+        assert!(!tested(Method::POST, &[]) && !tested(Method::POST, &[signed]));
     }
 
     #[test]

@@ -105,6 +105,20 @@ impl Action {
         }
     }
 
+    /// Whether it only tells what is there: it changes nothing, and hands nothing out.
+    pub fn only_reads(self) -> bool {
+        matches!(
+            self,
+            Action::GetCallerIdentity
+                | Action::GetQueueAttributes
+                | Action::GetQueueUrl
+                | Action::ListDeadLetterSourceQueues
+                | Action::ListMessageMoveTasks
+                | Action::ListQueueTags
+                | Action::ListQueues
+        )
+    }
+
     /// Whether its answers have URLs of queues.
     pub fn returns_urls(self) -> bool {
         matches!(
