@@ -262,11 +262,12 @@ impl Books {
         self.books().get(&place).map_or(0, |books| books.iter().map(|book| book.size - less * book.entries).sum())
     }
 
-    /// The numbers of those before it.
+    /// The numbers of those before it, the first one first. They go in this order: an earlier one alone would say of queues that
+    /// are gone by a later one that they are there.
     pub fn earlier(&self, place: usize) -> Vec<u64> {
         let books = self.books();
-        let books = books.get(&place).map_or(&[][..], Vec::as_slice);
-        books.iter().rev().skip(1).map(|book| book.number).collect()
+        let (_, earlier) = books.get(&place).and_then(|books| books.split_last()).unzip();
+        earlier.map_or(Vec::new(), |books| books.iter().map(|book| book.number).collect())
     }
 }
 
@@ -337,6 +338,9 @@ mod tests {
         assert_eq!((books.current(0), books.earlier(0), books.current(1)), (Some(4), vec![2], Some(3)));
         // One that was asked before.
         assert_eq!(books.count(0, 2, 15), 15);
+        books.add(0, 6);
+        assert_eq!(books.earlier(0), [2, 4], "the first one goes first");
+        books.remove(0, 6);
         assert_eq!((books.bytes_of_current(0), books.remove(0, 2)), (0, 25));
         assert_eq!((books.current(0), books.earlier(0), books.remove(0, 2)), (Some(4), vec![], 0));
     }
