@@ -110,7 +110,7 @@ fn of_place(store: &Store, place: usize) -> impl Iterator<Item = Arc<Queue>> + '
 pub async fn begin_all(store: &Store) -> Result<(), SqsError> {
     for place in store.places() {
         if store.queues().books().current(place).is_none() {
-            begin(store, place).await?;
+            begin(store, place, false).await?;
         }
         let program = Entry::Program(program_entry(store, place));
         store.perform_nameless(place, vec![Operation::Say(program)]).await?;
@@ -118,9 +118,18 @@ pub async fn begin_all(store: &Store) -> Result<(), SqsError> {
     Ok(())
 }
 
-async fn begin(store: &Store, place: usize) -> Result<(), SqsError> {
-    let create = Ask::Create { store: store.next_book(place), visibility: 0, bytes: 0 };
-    store.perform_nameless(place, vec![create.into()]).await
+/// Begins a book, behind which nothing is said in an earlier one that isn't asked by then. `again`: its name may be that of one that
+/// is gone.
+async fn begin(store: &Store, place: usize, again: bool) -> Result<(), SqsError> {
+    if let Some(order) = store.queues().books().order_to_say(place) {
+        store.perform_nameless(place, vec![Operation::Say(Entry::Book(order))]).await?;
+    }
+    let name = store.next_book(place, again);
+    let begun = store.perform_nameless(place, vec![Ask::Create { store: name, visibility: 0, bytes: 0 }.into()]).await;
+    if begun.is_err() {
+        store.queues().names().give_back(place, name, store.clock().now());
+    }
+    begun
 }
 
 /// Has a fresh book for each program, with all that counts. Refuses what no book takes.
@@ -144,7 +153,7 @@ async fn bring_up_to_date(store: &Store, place: usize, begins: bool) -> Result<(
     let books = store.queues().books();
     let is_first = books.current(place).is_none();
     if is_first || begins || is_worth_beginning_anew(store, place) {
-        begin(store, place).await?;
+        begin(store, place, !begins).await?;
     }
     // From now on nothing is said in an earlier one.
     if !store.wait_for(place).await {
@@ -214,8 +223,12 @@ async fn say_removals(store: &Store, place: usize) -> Result<(), SqsError> {
     store.perform_nameless(place, operations).await
 }
 
-/// Removes a name from the store by which no queue goes.
+/// Removes a name from the store by which no queue goes, unless somebody has done so by now. Meanwhile no queue gets it.
 pub async fn remove_left_over(store: &Store, place: usize, name: StoreName) -> Result<(), SqsError> {
+    let _in_use = store.queues().names().keep(place, name);
+    if !store.queues().left_over().has(place, name) {
+        return Ok(());
+    }
     remove(store, place, name).await?;
     store.queues().left_over().remove(place, name);
     Ok(())

@@ -218,19 +218,19 @@ mod tests {
 
     use crate::handles::Receipt;
     use crate::messages::Envelope;
-    use crate::queues::ask::{Cause, Changer, PartsAsk, Reach};
+    use crate::queues::ask::{Cause, Changer, PartsAsk, Reach, StoredAs};
     use crate::seeded::{check, edits, spoilt};
     use crate::texts::{DedupId, GroupId};
 
     fn bytes_of(ask_: &Ask) -> Vec<u8> {
-        ask(&AskFields::of(StoreName(7), 0, ask_)).unwrap()
+        ask(&AskFields::of(StoredAs { incarnation: 9, ..StoredAs::first(StoreName(7)) }, ask_)).unwrap()
     }
 
     #[test]
     fn each_ask_has_the_bytes_of_the_page() {
         let name = b"\x06\0\0\x007.fifo";
         let receipt = Receipt { sequence: 258, ordinal: 3 };
-        let of_receipt = [1u64, 258, 3].map(u64::to_le_bytes).concat();
+        let of_receipt = [9u64, 258, 3].map(u64::to_le_bytes).concat();
         let visibility = 9u32.to_le_bytes();
         let deleted = bytes_of(&Ask::Delete { receipt, by_client: true });
         assert_eq!(deleted, [&[4][..], name, &of_receipt].concat());
@@ -248,8 +248,7 @@ mod tests {
         let created = bytes_of(&Ask::Create { store: StoreName(7), visibility: 9, bytes: 0 });
         assert_eq!(created, [&[0][..], name, &visibility, &[0]].concat());
         assert_eq!(bytes_of(&Ask::Remove { store: StoreName(7) }), [&[1][..], name].concat());
-        let parts = ask(&AskFields::of(StoreName(7), 0, &Ask::Parts { number: 1, ask: PartsAsk::Read })).unwrap();
-        assert_eq!(parts[0], 3);
+        assert_eq!(bytes_of(&Ask::Parts { number: 1, ask: PartsAsk::Read })[0], 3);
     }
 
     /// The entry of moment 258 with request 9 of client 7, which asks this.

@@ -7,7 +7,7 @@ use serde::{Deserialize, Serialize};
 use thiserror::Error;
 
 use crate::handles::Receipt;
-use crate::queues::ask::{Ask, PartsAsk, StoreName};
+use crate::queues::ask::{Ask, PartsAsk, StoreName, StoredAs};
 use crate::texts::hex;
 
 /// The kinds of asks.
@@ -56,8 +56,9 @@ impl<'a> AskFields<'a> {
         }
     }
 
-    /// The fields of an ask. The store counts the queue's messages from the one behind `base`.
-    pub fn of(queue: StoreName, base: u64, ask: &'a Ask) -> AskFields<'a> {
+    /// The fields of an ask of a queue that stands in the store so.
+    pub fn of(stored: StoredAs, ask: &'a Ask) -> AskFields<'a> {
+        let queue = stored.name;
         match ask {
             Ask::Create { store, visibility, .. } => {
                 AskFields { visibility: Some(*visibility), ..AskFields::new(AskKind::Create, *store) }
@@ -81,10 +82,10 @@ impl<'a> AskFields<'a> {
             }
             Ask::Parts { number, ask } => AskFields::of_parts(StoreName::of_parts(*number), ask),
             Ask::Delete { receipt, .. } => {
-                AskFields { receipt: Some(receipt_text(*receipt, base)), ..AskFields::new(AskKind::Delete, queue) }
+                AskFields { receipt: Some(receipt_text(*receipt, stored)), ..AskFields::new(AskKind::Delete, queue) }
             }
             Ask::ChangeVisibility { receipt, visibility, .. } => AskFields {
-                receipt: Some(receipt_text(*receipt, base)),
+                receipt: Some(receipt_text(*receipt, stored)),
                 visibility: Some(*visibility),
                 ..AskFields::new(AskKind::Change, queue)
             },
@@ -118,20 +119,30 @@ impl<'a> AskFields<'a> {
     }
 }
 
-/// A name of the store is created once, so its queue is always the first of that name.
-fn receipt_text(receipt: Receipt, base: u64) -> Cow<'static, str> {
-    format!("1-{}-{}", receipt.sequence.saturating_sub(base), receipt.ordinal).into()
+/// The store refuses one of another queue of its name.
+fn receipt_text(receipt: Receipt, stored: StoredAs) -> Cow<'static, str> {
+    format!("{}-{}-{}", stored.incarnation, receipt.sequence.saturating_sub(stored.base), receipt.ordinal).into()
 }
 
-/// Reads the store's text of a receipt, of a queue that the store counts from the message behind `base`.
+/// Reads the store's text of a receipt, of whichever queue of its name, that the store counts from the message behind `base`.
 pub fn read_receipt(text: &str, base: u64) -> Option<Receipt> {
+    read_own_receipt(text, base).map(|(_, receipt)| receipt)
+}
+
+/// The same of this queue alone.
+pub fn read_receipt_of(text: &str, stored: StoredAs) -> Option<Receipt> {
+    let (incarnation, receipt) = read_own_receipt(text, stored.base)?;
+    (incarnation == stored.incarnation).then_some(receipt)
+}
+
+fn read_own_receipt(text: &str, base: u64) -> Option<(u64, Receipt)> {
     let mut parts = text.split('-').map(|part| part.parse::<u64>().ok());
-    let (Some(Some(_)), Some(Some(place)), Some(Some(ordinal)), None) =
+    let (Some(Some(incarnation)), Some(Some(place)), Some(Some(ordinal)), None) =
         (parts.next(), parts.next(), parts.next(), parts.next())
     else {
         return None;
     };
-    Some(Receipt { sequence: base.checked_add(place)?, ordinal })
+    Some((incarnation, Receipt { sequence: base.checked_add(place)?, ordinal }))
 }
 
 const PUT: &[u8] = b"{\"op\":\"put\",\"from\":1,\"to\":\"clients\"}\n";
@@ -325,7 +336,7 @@ mod tests {
     use crate::seeded::{check, edits, spoilt};
 
     fn line_of(ask: &Ask) -> String {
-        let ask = super::ask(&AskFields::of(StoreName(7), 10, ask)).unwrap();
+        let ask = super::ask(&AskFields::of(StoredAs { name: StoreName(7), incarnation: 3, base: 10 }, ask)).unwrap();
         let mut out = Vec::new();
         append_request(&mut out, 5, 2, 3, &ask).unwrap();
         String::from_utf8(out).unwrap()
@@ -336,7 +347,7 @@ mod tests {
         let receipt = Receipt { sequence: 12, ordinal: 4 };
         let line = line_of(&Ask::ChangeVisibility { receipt, visibility: 9, by: Changer::Client });
         let expected = "{\"op\":\"arrive\",\"at\":1,\"clock\":5,\"client\":2  ,\"number\":3,\"ask\":{\"kind\":\"change\",\
-            \"queue\":\"7.fifo\",\"visibility\":9,\"receipt\":\"1-2-4\"}}\n{\"op\":\"put\",\"from\":1,\"to\":\"clients\"}\n";
+            \"queue\":\"7.fifo\",\"visibility\":9,\"receipt\":\"3-2-4\"}}\n{\"op\":\"put\",\"from\":1,\"to\":\"clients\"}\n";
         assert_eq!(line, expected);
     }
 
@@ -348,7 +359,11 @@ mod tests {
         };
         let expected = r#"{"kind":"received","messages":[{"body":"a\n","group":"g","receipt":"1-2-1"}]}"#;
         assert_eq!((text, given[0].body.as_str()), (expected, "a\n"));
-        assert_eq!(read_receipt(&given[0].receipt, 10), Some(Receipt { sequence: 12, ordinal: 1 }));
+        let receipt = Receipt { sequence: 12, ordinal: 1 };
+        assert_eq!(read_receipt(&given[0].receipt, 10), Some(receipt));
+        let stored = StoredAs { base: 10, ..StoredAs::first(StoreName(7)) };
+        assert_eq!(read_receipt_of(&given[0].receipt, stored), Some(receipt));
+        assert_eq!(read_receipt_of(&given[0].receipt, StoredAs { incarnation: 2, ..stored }), None);
         let refused = br#"{"line":3,"name":"BadLine","refused":61}"#;
         assert!(matches!(read_output(refused), Ok(OutputLine::Refused { code: 61 })));
         for bad in [&b"hello"[..], b"{}", b"{\"client\":1,\"number\":1,\"reply\":{\"kind\":\"x\"}}"] {

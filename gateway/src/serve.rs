@@ -372,6 +372,7 @@ async fn begin_beside_node(settings: &Settings, tables: (&Arc<Clock>, &Arc<Queue
     let made = store::wait_beside_node(making, &mut cq, &mut node, (clock, &far)).await?;
     made.context("the store of the head")?;
     clock.go_on_from(last);
+    queues.names().wait_from(clock.now());
     let kept = Kept { files: Vec::new(), begun: vec![number], entries: Vec::new() };
     Ok(Begun { cqs: vec![cq], node: Some(node), kept: Some(kept), last, _lock: None })
 }

@@ -73,16 +73,22 @@ def dumped(journal: Path) -> bytes:
 
 def names_in_store(journal: Path) -> set[str]:
     """The names that live in the stores by a journal. Nobody asks for anything meanwhile."""
-    return {name for file in files_of(journal) for name in _names_in(file)}
+    return {name for name, incarnation in all_names_in_store(journal).items() if incarnation is not None}
 
 
-def _names_in(file: Path) -> set[str]:
+def all_names_in_store(journal: Path) -> dict[str, int | None]:
+    """All names that the stores by a journal know, and which queue of its name is there, from 1; None where there is none."""
+    return {name: incarnation for file in files_of(journal) for name, incarnation in _names_in(file).items()}
+
+
+def _names_in(file: Path) -> dict[str, int | None]:
     with tempfile.TemporaryDirectory() as room:
         chunks = spoken.store_of(program(), shutil.copy(file, room))
     digits = "01" + b"".join(chunk[1:] for chunk in chunks).hex()
     words = subprocess.run([TOP / "check" / "wire", "store"], input=digits, capture_output=True, check=True, text=True).stdout
     names = re.findall(r"name ([0-9a-f]+) \d+ (?:\d+|none) (\d+|none)", words)
-    return {bytes.fromhex(name).decode() for name, incarnation in names if incarnation != "none"}
+    incarnations = {name: None if incarnation == "none" else int(incarnation) for name, incarnation in names}
+    return {bytes.fromhex(name).decode(): incarnation for name, incarnation in incarnations.items()}
 
 
 class Refused(Exception):

@@ -241,7 +241,7 @@ mod tests {
     use crate::handles::Receipt;
     use std::sync::Arc;
 
-    use crate::queues::ask::Delayed;
+    use crate::queues::ask::{Delayed, StoredAs};
 
     #[test]
     fn records_come_back() {
@@ -268,7 +268,8 @@ mod tests {
             Ask::ChangeVisibility { receipt, visibility: 5, by: Changer::Attempt },
             Ask::Remove { store: StoreName(7) },
         ] {
-            let raw = serde_json::value::to_raw_value(&AskFields::of(StoreName(7), 10, &ask)).unwrap();
+            let stored = StoredAs { base: 10, ..StoredAs::first(StoreName(7)) };
+            let raw = serde_json::value::to_raw_value(&AskFields::of(stored, &ask)).unwrap();
             let mut line = Vec::new();
             Record::of_ask(5, &ask, &raw, "{}").append(&mut line).unwrap();
             let record = Record::read(&line[..line.len() - 1]).unwrap();

@@ -252,12 +252,12 @@ mod tests {
 
     use super::*;
     use crate::lines::AskFields;
-    use crate::queues::ask::{Ask, TableChange};
+    use crate::queues::ask::{Ask, StoredAs, TableChange};
     use crate::queues::book::{Entry, QueueEntry};
     use crate::texts::QueueName;
 
     fn append(payload: &mut Vec<u8>, ask: &Ask) {
-        let raw = serde_json::value::to_raw_value(&AskFields::of(StoreName(8), 0, ask)).unwrap();
+        let raw = serde_json::value::to_raw_value(&AskFields::of(StoredAs::first(StoreName(8)), ask)).unwrap();
         Record::of_ask(1, ask, &raw, "{}").append(payload).unwrap();
     }
 

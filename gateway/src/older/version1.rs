@@ -20,7 +20,7 @@ use crate::attributes::{GivenAttributes, QueueAttributes};
 use crate::cq::{Cq, CqError};
 use crate::lines::{self, read_receipt, AskFields, AskKind, OutputLine, StoreReply};
 use crate::messages::{read_envelope, AttributeValue, Envelope, MessageAttributes, Metadata};
-use crate::queues::ask::{Ask, Cause, Changer, Reach, StoreName, TableChange};
+use crate::queues::ask::{Ask, Cause, Changer, Reach, StoreName, StoredAs, TableChange};
 use crate::store::ReplayError;
 use crate::texts::{hex, AttemptId, Body, DedupId, GroupId, QueueName};
 
@@ -191,7 +191,7 @@ impl Conversion {
         if is_removal {
             self.queues.remove(&name);
         }
-        let raw = serde_json::value::to_raw_value(&AskFields::of(store, 0, &ask)).ok()?;
+        let raw = serde_json::value::to_raw_value(&AskFields::of(StoredAs::first(store), &ask)).ok()?;
         self.number += 1;
         let digest = old.digest?.into_owned();
         let removed = is_removal.then_some(name);

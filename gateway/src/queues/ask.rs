@@ -106,6 +106,23 @@ impl From<StoreName> for String {
     }
 }
 
+/// How a queue stands in a store.
+#[derive(Clone, Copy, Debug, PartialEq, Eq)]
+pub struct StoredAs {
+    pub name: StoreName,
+    /// Which queue of this name it is, from 1: the store counts them.
+    pub incarnation: u64,
+    /// The store counts its messages from the one behind this.
+    pub base: u64,
+}
+
+impl StoredAs {
+    /// The first queue of this name, with all its messages.
+    pub fn first(name: StoreName) -> StoredAs {
+        StoredAs { name, incarnation: 1, base: 0 }
+    }
+}
+
 /// One thing to ask of a queue.
 #[derive(Clone, Debug)]
 pub enum Ask {

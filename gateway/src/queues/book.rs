@@ -34,6 +34,9 @@ pub enum Entry {
     Jump(Moment, u64),
     /// Where programs do so: what a journal of an earlier version had beside the store of messages of the queue of this mark.
     Older(u64, Vec<OlderFact>),
+    /// Which one of its program's books this is, from 1: their names are used again, and don't tell their order. Each says so
+    /// before the next one is begun, so that the last is one that doesn't.
+    Book(u64),
 }
 
 /// How a queue stands. A queue is there from its first entry on; its name in the store is created before.
@@ -185,7 +188,7 @@ pub fn size_of_text(text: &str) -> u64 {
 }
 
 /// One that the store has.
-#[derive(Clone, Copy, Debug)]
+#[derive(Clone, Copy, Debug, Default)]
 struct Book {
     number: u64,
     /// What its entries take of memory, and how many there are.
@@ -193,6 +196,8 @@ struct Book {
     entries: u64,
     /// It says which program has it.
     has_program: bool,
+    /// Which one it says that it is.
+    order: Option<u64>,
 }
 
 /// The books of all programs, by their places: the last of each is the one that is written to, and the others are to be
@@ -207,7 +212,7 @@ impl Books {
 
     /// The store has this one, and from now on it is written to.
     pub fn add(&self, place: usize, number: u64) {
-        self.books().entry(place).or_default().push(Book { number, size: 0, entries: 0, has_program: false });
+        self.books().entry(place).or_default().push(Book { number, ..Book::default() });
     }
 
     /// The store hasn't got it any more. Tells what its entries took of memory.
@@ -227,6 +232,29 @@ impl Books {
             return size;
         }
         0
+    }
+
+    /// The book of this number says which one of its program's it is.
+    pub fn order_said(&self, place: usize, number: u64, order: u64) {
+        let mut books = self.books();
+        let found = books.entry(place).or_default().iter_mut().find(|book| book.number == number);
+        found.into_iter().for_each(|book| book.order = Some(order));
+    }
+
+    /// Whether all but the one that is written to say which one they are. Else their numbers tell their order.
+    pub fn are_ordered(&self, place: usize) -> bool {
+        let books = self.books();
+        let earlier = books.get(&place).and_then(|books| books.split_last()).map_or(&[][..], |(_, earlier)| earlier);
+        earlier.iter().all(|book| book.order.is_some())
+    }
+
+    /// Which one the book that is written to is, where that is to be said before the next one is begun.
+    pub fn order_to_say(&self, place: usize) -> Option<u64> {
+        let books = self.books();
+        let (current, earlier) = books.get(&place)?.split_last()?;
+        let before = earlier.iter().map(|book| book.order).max().unwrap_or(Some(0))?;
+        let is_ordered = earlier.iter().all(|book| book.order.is_some());
+        (is_ordered && current.order.is_none()).then_some(before + 1)
     }
 
     /// The book of this number says which program has it.
@@ -262,11 +290,12 @@ impl Books {
         self.books().get(&place).map_or(0, |books| books.iter().map(|book| book.size - less * book.entries).sum())
     }
 
-    /// The numbers of those before it.
+    /// The numbers of those before it, the first one first. They go in this order: an earlier one alone would say of queues that
+    /// are gone by a later one that they are there.
     pub fn earlier(&self, place: usize) -> Vec<u64> {
         let books = self.books();
-        let books = books.get(&place).map_or(&[][..], Vec::as_slice);
-        books.iter().rev().skip(1).map(|book| book.number).collect()
+        let (_, earlier) = books.get(&place).and_then(|books| books.split_last()).unzip();
+        earlier.map_or(Vec::new(), |books| books.iter().map(|book| book.number).collect())
     }
 }
 
@@ -292,6 +321,11 @@ impl LeftOver {
     /// This one has gone.
     pub fn remove(&self, place: usize, name: StoreName) {
         self.names().remove(&(place, name));
+    }
+
+    /// Whether this one is to go.
+    pub fn has(&self, place: usize, name: StoreName) -> bool {
+        self.names().contains(&(place, name))
     }
 
     pub fn of(&self, place: usize) -> Vec<StoreName> {
@@ -337,7 +371,29 @@ mod tests {
         assert_eq!((books.current(0), books.earlier(0), books.current(1)), (Some(4), vec![2], Some(3)));
         // One that was asked before.
         assert_eq!(books.count(0, 2, 15), 15);
+        books.add(0, 6);
+        assert_eq!(books.earlier(0), [2, 4], "the first one goes first");
+        books.remove(0, 6);
+        assert_eq!(books.order_to_say(0), None, "the second one doesn't say that it is the second");
         assert_eq!((books.bytes_of_current(0), books.remove(0, 2)), (0, 25));
         assert_eq!((books.current(0), books.earlier(0), books.remove(0, 2)), (Some(4), vec![], 0));
+    }
+
+    #[test]
+    fn each_book_says_which_one_it_is_before_the_next_is_begun() {
+        let books = Books::default();
+        assert_eq!((books.order_to_say(0), books.are_ordered(0)), (None, true));
+        books.add(0, 2);
+        assert_eq!((books.order_to_say(0), books.are_ordered(0)), (Some(1), true));
+        books.order_said(0, 2, 1);
+        assert_eq!(books.order_to_say(0), None, "it says so");
+        books.add(0, 1);
+        assert_eq!((books.order_to_say(0), books.are_ordered(0)), (Some(2), true));
+        // Of two books of an earlier version the numbers tell which is the later one.
+        books.add(1, 3);
+        books.add(1, 4);
+        assert_eq!((books.order_to_say(1), books.are_ordered(1)), (None, false));
+        books.remove(1, 3);
+        assert_eq!((books.order_to_say(1), books.are_ordered(1)), (Some(1), true));
     }
 }

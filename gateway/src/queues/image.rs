@@ -44,7 +44,7 @@ pub struct Image {
     largest_number: u64,
     handed: Handed,
     /// The names that the store has had, and those of their queues that live.
-    names: BTreeMap<StoreName, Option<StoredQueue>>,
+    names: BTreeMap<StoreName, StoredName>,
     current: Option<StoreName>,
     /// The numbers of parts that were removed, and when.
     removed_parts: Vec<(u64, Moment)>,
@@ -60,9 +60,19 @@ const LARGEST: u64 = u64::MAX / 2;
 /// No more of these are kept. Whatever attempt was given others is forgotten.
 const MOST_IN_FLIGHT: usize = 64 << 20;
 
+/// A name as the store has it.
+struct StoredName {
+    /// How many queues of this name there have been, and when the last one was removed that was.
+    creations: u64,
+    removed: Option<Moment>,
+    queue: Option<StoredQueue>,
+}
+
 /// A queue as the store has it.
 #[derive(Default)]
 pub(super) struct StoredQueue {
+    /// Which one of its name it is.
+    pub(super) incarnation: u64,
     /// How many sends were accepted.
     pub(super) sent: u64,
     pub(super) messages: Vec<StoredMessage>,
@@ -136,6 +146,13 @@ pub(super) struct AcceptedSend {
     pub(super) sequence: u64,
 }
 
+impl StoredName {
+    /// When it went; nothing where it is there.
+    fn gone(&self) -> Option<Moment> {
+        self.queue.is_none().then(|| self.removed.unwrap_or(0))
+    }
+}
+
 impl StoredQueue {
     /// Puts lines that a book says in the place of what the store has, which counts messages from the one behind `base`. False
     /// if one is missing.
@@ -207,7 +224,7 @@ impl Image {
                     self.handed.insert(*client, (*number, receipts));
                 }
             }
-            Part::Name { name, removed, queue, .. } => self.take_name(name, *removed, queue.as_ref())?,
+            Part::Name { .. } => self.take_name(part)?,
             Part::Message { .. } => self.take_message(part)?,
             Part::Accepted { id, moment, sequence } => {
                 if let Some(queue) = self.current_queue() {
@@ -222,24 +239,24 @@ impl Image {
     }
 
     /// Names that aren't the gateway's are passed over.
-    fn take_name(&mut self, name: &str, removed: Option<Moment>, queue: Option<&QueuePart>) -> Result<(), ImageError> {
+    fn take_name(&mut self, part: &Part<'_>) -> Result<(), ImageError> {
+        let Part::Name { name, creations, removed, queue } = *part else { return Ok(()) };
         self.current = StoreName::parse(name);
         if let Some(store) = self.current {
             if let (Some(number), Some(removed), None) = (store.parts(), removed, queue) {
                 self.removed_parts.push((number, removed));
             }
-            // No receipt is of parts.
-            if store.parts().is_none() && queue.is_some_and(|queue| queue.incarnation != 1) {
-                return Err(ImageError::Foreign(name.into(), "it was created more than once"));
-            }
-            let queue = queue.map(|queue| StoredQueue { sent: queue.sent, ..StoredQueue::default() });
-            self.names.insert(store, queue);
+            let of_queue = |queue: QueuePart| {
+                let QueuePart { incarnation, sent, .. } = queue;
+                StoredQueue { incarnation, sent, ..StoredQueue::default() }
+            };
+            self.names.insert(store, StoredName { creations, removed, queue: queue.map(of_queue) });
         }
         Ok(())
     }
 
     fn current_queue(&mut self) -> Option<&mut StoredQueue> {
-        self.names.get_mut(&self.current?)?.as_mut()
+        self.names.get_mut(&self.current?)?.queue.as_mut()
     }
 
     fn take_message(&mut self, part: &Part<'_>) -> Result<(), ImageError> {
@@ -283,9 +300,9 @@ impl Queues {
             return Err(ImageError::Foreign(image.largest_number.to_string(), "no request has such a number"));
         }
         image.names.keys().for_each(|name| self.saw_store_name(*name));
-        let gone = image.names.iter().filter(|(name, queue)| queue.is_none() && name.parts().is_none());
-        self.gone_names.add(place, gone.count() as u64);
-        let living = image.names.into_iter().filter_map(|(name, queue)| Some((name, queue?)));
+        let names = image.names.iter().filter(|(name, stored)| name.parts().is_none() && stored.creations > 0);
+        self.names.find(place, names.map(|(name, stored)| (*name, stored.creations, stored.gone())));
+        let living = image.names.into_iter().filter_map(|(name, stored)| Some((name, stored.queue?)));
         let (books, mut living): (BTreeMap<_, _>, BTreeMap<_, _>) = living.partition(|(name, _)| name.book().is_some());
         let Told { by_mark, mut attempts, mut asked, mut older, .. } = self.take_up_books(shard, books)?;
         let is_there = |queue: &Arc<Queue>| self.find(&queue.name).is_some_and(|found| Arc::ptr_eq(&found, queue));
@@ -304,6 +321,7 @@ impl Queues {
                 return Err(no_envelope(store));
             }
             self.take_up_copies(place, &stored.accepted);
+            self.names.use_by(place, store, &queue.in_use);
             let copied = self.take_up_messages(&queue, stored, (image.last, &image.far));
             if let Some(mut stored) = living.remove(&store.of_delays()) {
                 let delays = Arc::new(Queue::beside(&queue, store).0);
@@ -311,6 +329,7 @@ impl Queues {
                 if !stored.put_lines(0) {
                     return Err(no_envelope(store.of_delays()));
                 }
+                self.names.use_by(place, store.of_delays(), &delays.in_use);
                 self.created(place, &delays, store.of_delays());
                 self.take_up_delayed(&queue, &delays, stored, (image.last, &image.far));
                 let mut state = delays.state();
@@ -329,18 +348,11 @@ impl Queues {
     fn take_up_books(&self, shard: Shard, books: BTreeMap<StoreName, StoredQueue>) -> Result<Told<'_>, ImageError> {
         let place = shard.place();
         let mut told = Told::new(self, place);
-        for (name, book) in books {
-            let Some(number) = name.book() else { continue };
+        for (_, number, entries) in in_order(shard, books)? {
             self.books.add(place, number);
-            for text in book.entries {
-                let no_entry = |_| ImageError::Foreign(name.text(), "a message of it is no entry of a book");
-                let entry = serde_json::from_str(&text).map_err(no_entry)?;
-                if !is_of_program(&entry, shard) {
-                    let why = "it is that of another program, or of another number of programs (--shards)";
-                    return Err(ImageError::Foreign(name.text(), why));
-                }
-                self.count_entry(place, number, size_of_text(&text));
-                told.take(&entry, number, size_of_text(&text));
+            for (entry, size) in entries {
+                self.count_entry(place, number, size);
+                told.take(&entry, number, size);
             }
         }
         Ok(told)
@@ -387,6 +399,36 @@ impl Queues {
 fn untold(handed: &Handed, asked: AttemptRequest) -> Option<(AttemptId, Vec<(u64, u64)>)> {
     let (_, receipts) = handed.get(&asked.client).filter(|(number, _)| *number == asked.number)?;
     Some((asked.id, receipts.clone()))
+}
+
+/// Books in the order in which they were begun, with their numbers and their entries, and what each of these takes of memory.
+type ReadBooks = Vec<(u64, u64, Vec<(Entry, u64)>)>;
+
+/// The last is one that doesn't say which one it is. Where several don't, they are of an earlier version, and their numbers rise.
+fn in_order(shard: Shard, books: BTreeMap<StoreName, StoredQueue>) -> Result<ReadBooks, ImageError> {
+    let mut read = ReadBooks::new();
+    for (name, book) in books {
+        let Some(number) = name.book() else { continue };
+        let entries = entries_of(shard, name, book)?;
+        let orders = entries.iter().filter_map(|(entry, _)| match entry {
+            Entry::Book(order) => Some(*order),
+            _ => None,
+        });
+        read.push((orders.max().unwrap_or(u64::MAX), number, entries));
+    }
+    read.sort_unstable_by_key(|(order, number, _)| (*order, *number));
+    Ok(read)
+}
+
+fn entries_of(shard: Shard, name: StoreName, book: StoredQueue) -> Result<Vec<(Entry, u64)>, ImageError> {
+    let no_entry = |_| ImageError::Foreign(name.text(), "a message of it is no entry of a book");
+    let read = |text: &String| Ok((serde_json::from_str(text).map_err(no_entry)?, size_of_text(text)));
+    let entries = book.entries.iter().map(read).collect::<Result<Vec<(Entry, u64)>, ImageError>>()?;
+    if !entries.iter().all(|(entry, _)| is_of_program(entry, shard)) {
+        let why = "it is that of another program, or of another number of programs (--shards)";
+        return Err(ImageError::Foreign(name.text(), why));
+    }
+    Ok(entries)
 }
 
 /// Whether an entry that says which program has its book says that of this one.
@@ -442,6 +484,7 @@ impl Told<'_> {
             Entry::Asked(asked) => self.asked.entry(asked.mark).or_default().push(asked.clone()),
             Entry::Program(program) => queues.program_said(program, book),
             Entry::Jump(moment, uncounted) => queues.jumps.add(*moment, *uncounted),
+            Entry::Book(order) => queues.books.order_said(place, book, *order),
             Entry::Older(mark, facts) => self.older.entry(*mark).or_default().extend(facts.iter().cloned()),
         }
     }

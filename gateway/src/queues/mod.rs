@@ -2,9 +2,9 @@
 
 pub mod ask;
 pub mod book;
-mod gone_names;
 mod groups;
 mod image;
+mod names;
 mod parts;
 pub mod shards;
 mod state;
@@ -31,8 +31,8 @@ use crate::retention::Jumps;
 use crate::texts::{QueueKind, QueueName};
 use ask::{Ask, Cause, Outcome, StoreName, TableChange};
 use book::{size_of_text, Books, Entry, LeftOver, ProgramEntry, QueueEntry, Removal};
-use gone_names::GoneNames;
 pub use image::{Image, ImageError};
+use names::{InUse, Names};
 pub use parts::Parts;
 use shards::{Shard, Shards};
 pub use state::{Chunk, Cursor, OlderFact, Peeked, State, Visibility};
@@ -45,6 +45,8 @@ pub const REMOVAL_PAUSE: u64 = 60_000;
 pub struct Queue {
     pub name: QueueName,
     pub mark: Mark,
+    /// Whoever has the queue has its name in the store.
+    in_use: InUse,
     state: Mutex<State>,
     /// Told when something happened that can open a group.
     pub opened: Notify,
@@ -61,6 +63,7 @@ impl Queue {
         Queue {
             name: entry.name.clone(),
             mark: Mark(entry.mark),
+            in_use: InUse::default(),
             state: Mutex::new(State::new(entry)),
             opened: Notify::new(),
             polls: Polls::default(),
@@ -147,7 +150,7 @@ pub struct Queues {
     last_book: AtomicU64,
     books: Books,
     left_over: LeftOver,
-    gone_names: GoneNames,
+    names: Names,
     /// What all queues take of memory, in bytes.
     bytes_in_use: AtomicU64,
     jumps: Jumps,
@@ -184,12 +187,12 @@ impl Queues {
         &self.books
     }
 
-    /// Names that go from the store.
-    /// Names that stores keep for good, though no queue has them any more.
-    pub fn gone_names(&self) -> &GoneNames {
-        &self.gone_names
+    /// Names that the stores have had.
+    pub fn names(&self) -> &Names {
+        &self.names
     }
 
+    /// Names that go from the store.
     pub fn left_over(&self) -> &LeftOver {
         &self.left_over
     }
@@ -270,14 +273,19 @@ impl Queues {
         removed.values().filter(|removal| now < removal.at + REMOVAL_PAUSE).cloned().collect()
     }
 
-    /// A name of the store that no queue has had, for the program at this place.
-    pub fn next_store_name(&self, shards: Shards, place: usize) -> StoreName {
-        StoreName(next_number(&self.last_store_name, shards, place))
+    /// A name of the store for a queue of the program at this place: one that no queue has had, or where a moment is given, one
+    /// that is free again by then.
+    pub fn next_store_name(&self, shards: Shards, place: usize, now: Option<Moment>) -> StoreName {
+        let again = now.and_then(|now| self.names.take(place, now));
+        again.unwrap_or_else(|| StoreName(next_number(&self.last_store_name, shards, place)))
     }
 
-    /// The same for a book.
-    pub fn next_book(&self, shards: Shards, place: usize) -> u64 {
-        next_number(&self.last_book, shards, place)
+    /// The number of the next book of the program at this place. Where a moment is given, the name may be one that is free again by
+    /// then, if the books that are there say their order.
+    pub fn next_book(&self, shards: Shards, place: usize, now: Option<Moment>) -> u64 {
+        let now = now.filter(|_| self.books.are_ordered(place) && self.books.order_to_say(place).is_none());
+        let again = now.and_then(|now| self.names.take_book(place, now)?.book());
+        again.unwrap_or_else(|| next_number(&self.last_book, shards, place))
     }
 
     /// The last numbers that names of the store have: of queues, of books and of parts.
@@ -311,12 +319,15 @@ impl Queues {
             (_, StoreReply::Refused(code)) if !matches!(ask, Ask::ChangeVisibility { .. }) => {
                 Err(SqsError::of_refusal(code))
             }
-            (Ask::Create { store, .. }, StoreReply::Created(_)) => {
+            (Ask::Create { store, .. }, StoreReply::Created(incarnation)) => {
+                self.name_created(place, queue, *store, incarnation)?;
                 self.created(place, queue, *store);
                 Ok(Outcome::Done)
             }
             (Ask::Remove { store }, StoreReply::Removed) => {
-                self.gone_names.add(place, 1);
+                // From now on it may be another queue's.
+                self.left_over.remove(place, *store);
+                self.names.removed(place, *store, moment);
                 if let Some(number) = store.book() {
                     let bytes = self.books.remove(place, number);
                     self.bytes_in_use.fetch_sub(bytes, Ordering::Relaxed);
@@ -337,6 +348,17 @@ impl Queues {
     fn count_entry(&self, place: usize, book: u64, size: u64) {
         let bytes = self.books.count(place, book, size);
         self.bytes_in_use.fetch_add(bytes, Ordering::Relaxed);
+    }
+
+    /// The store has made a queue of this name. One that nobody knew of goes.
+    fn name_created(&self, place: usize, queue: &Queue, store: StoreName, incarnation: u64) -> Result<(), SqsError> {
+        let in_use = if store.book().is_some() { Weak::new() } else { Arc::downgrade(&queue.in_use) };
+        if !self.names.created(place, store, incarnation, in_use) {
+            self.left_over.add(place, [store]);
+            return Err(SqsError::InternalFailure("The store has another queue of this name.".into()));
+        }
+        queue.state().incarnation = incarnation;
+        Ok(())
     }
 
     /// The store has this name. Of a queue the book says so later.
@@ -364,6 +386,7 @@ impl Queues {
             Entry::Asked(asked) => queue.state().attempt_asks(asked),
             Entry::Program(program) => self.program_said(program, book),
             Entry::Jump(moment, uncounted) => self.jumps.add(*moment, *uncounted),
+            Entry::Book(order) => self.books.order_said(place, book, *order),
         }
     }
 
@@ -516,7 +539,7 @@ impl Queues {
             let stored = queue.state().bytes_stored(self.keeps_copies);
             (messages + stored.messages, entries + stored.entries)
         });
-        let names = STORED_NAME_BYTES * self.gone_names.of(shard.place());
+        let names = STORED_NAME_BYTES * self.names.gone(shard.place());
         of_messages + of_entries.max(self.books.bytes_stored(shard.place())) + names
     }
 
@@ -541,7 +564,9 @@ impl Queues {
 
     fn remove(&self, place: usize, queue: &Arc<Queue>, removal: &Removal) {
         let is_nameless = self.nameless.get().is_some_and(|nameless| Arc::ptr_eq(nameless, queue));
-        if !is_nameless && queue.mark.0 == removal.mark {
+        // Another queue may have its names once they have gone.
+        let is_gone = queue.state().removed;
+        if !is_nameless && !is_gone && queue.mark.0 == removal.mark {
             self.left_over.add(place, queue.store_names());
             self.forget(queue);
             queue.opened.notify_one();

@@ -52,7 +52,7 @@ impl Admission {
 
     /// What is in use of memory, in bytes.
     pub fn bytes_in_use(&self) -> u64 {
-        let names = GONE_NAME_BYTES * self.queues.gone_names().all();
+        let names = GONE_NAME_BYTES * self.queues.names().all_gone();
         self.queues.bytes_in_use() + names + self.coming.load(Ordering::Relaxed)
     }
 

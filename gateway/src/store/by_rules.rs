@@ -187,7 +187,10 @@ impl LivingQueue {
     }
 
     fn delete(&mut self, receipt: &str, now: Moment) -> Value {
-        let (sequence, ordinal) = numbers(receipt);
+        let (incarnation, sequence, ordinal) = numbers(receipt);
+        if incarnation != self.incarnation {
+            return refused(4);
+        }
         let is_deleted = match self.messages.get(&sequence) {
             None if sequence <= self.sent => false,
             Some(message) if ordinal <= message.handings => ordinal == message.handings,
@@ -201,7 +204,10 @@ impl LivingQueue {
     }
 
     fn change(&mut self, receipt: &str, visibility: u32, now: Moment) -> Value {
-        let ((sequence, ordinal), until) = (numbers(receipt), now + 1000 * u64::from(visibility));
+        let ((incarnation, sequence, ordinal), until) = (numbers(receipt), now + 1000 * u64::from(visibility));
+        if incarnation != self.incarnation {
+            return refused(4);
+        }
         match self.messages.get_mut(&sequence) {
             None if sequence <= self.sent => refused(5),
             Some(message) if ordinal != message.handings || ordinal == 0 => refused(4),
@@ -216,8 +222,8 @@ impl LivingQueue {
     }
 }
 
-/// The sequence number and the ordinal of a receipt.
-fn numbers(receipt: &str) -> (u64, u64) {
+/// The incarnation, the sequence number and the ordinal of a receipt.
+fn numbers(receipt: &str) -> (u64, u64, u64) {
     let numbers: Vec<u64> = receipt.split('-').map(|number| number.parse().unwrap()).collect();
-    (numbers[1], numbers[2])
+    (numbers[0], numbers[1], numbers[2])
 }

@@ -113,7 +113,7 @@ pub fn steps() -> impl Strategy<Value = Steps> {
         2 => Just(Step::BeginBook),
         2 => Just(Step::EndBook),
         2 => Just(Step::RemoveLeftOver),
-        2 => select(vec![1u64, 1000, 30_000, 60_000, 240_000]).prop_map(Step::Wait),
+        2 => select(vec![1u64, 1000, 30_000, 60_000, 240_000, 360_000]).prop_map(Step::Wait),
     ];
     proptest::collection::vec((select(NAMES.to_vec()), step), 1..60)
 }
@@ -157,6 +157,7 @@ pub struct Told {
     removals: BTreeSet<String>,
     books: Vec<(Option<u64>, Vec<u64>, u64)>,
     parts: Vec<String>,
+    names: Vec<String>,
     /// The last numbers of names.
     numbers: [u64; 3],
     /// Without what attempts were given, and that.
@@ -183,6 +184,7 @@ pub fn told(queues: &Queues, shards: Shards, now: Moment) -> Told {
         removals: queues.removals(now).iter().map(|removal| format!("{removal:?}")).collect(),
         books: (0..shards.count() as usize).map(book).collect(),
         parts: queues.parts().told(),
+        names: queues.names().told(),
         numbers: queues.last_numbers(),
         bytes: queues.bytes_in_use() - attempts.iter().map(|(bytes, _)| bytes).sum::<u64>(),
         attempts,
@@ -260,18 +262,16 @@ impl Living {
     }
 
     fn ask(&mut self, queue: &Arc<Queue>, ask: Ask) -> Result<Outcome, SqsError> {
-        let (place, own, base) = {
-            let state = queue.state();
-            (self.shards.place_of(&queue.name), state.entry.store, state.entry.base)
-        };
+        let (place, own) = (self.shards.place_of(&queue.name), queue.state().stored_as());
         let place = match &ask {
             Ask::Create { store, .. } | Ask::Remove { store } if store.book().is_some() => {
                 self.shards.place_of_number(store.book().unwrap())
             }
+            Ask::Remove { store } => self.shards.place_of_number(store.main().unwrap_or(*store).0),
             Ask::Say { book: number, .. } | Ask::Parts { number, .. } => self.shards.place_of_number(*number),
             _ => place,
         };
-        let raw = serde_json::value::to_raw_value(&AskFields::of(own, base, &ask)).unwrap();
+        let raw = serde_json::value::to_raw_value(&AskFields::of(own, &ask)).unwrap();
         let text = self.stores[place].reply(&serde_json::from_str(raw.get()).unwrap(), self.now).to_string();
         let line = format!("{{\"client\":1,\"number\":1,\"reply\":{text}}}");
         let Ok(OutputLine::Answer { reply, .. }) = lines::read_output(line.as_bytes()) else { panic!("{line}") };
@@ -308,7 +308,10 @@ impl Living {
     }
 
     fn begin_book(&mut self, place: usize) {
-        let store = StoreName::of_book(self.queues.next_book(self.shards, place));
+        let order = self.queues.books().order_to_say(place);
+        order.into_iter().for_each(|order| self.say(&self.nameless(), place, Entry::Book(order)));
+        let number = self.queues.next_book(self.shards, place, self.is_kept.then_some(self.now));
+        let store = StoreName::of_book(number);
         self.ask(&self.nameless(), Ask::Create { store, visibility: 0, bytes: 0 }).unwrap();
         let attempts: Vec<_> = self.queues.all().iter().flat_map(|queue| queue.state().entries_of_attempts()).collect();
         let of_place = attempts.into_iter().filter(|entry| {
@@ -348,7 +351,7 @@ impl Living {
     }
 
     fn create(&mut self, name: &QueueName, place: usize) {
-        let store = self.queues.next_store_name(self.shards, place);
+        let store = self.queues.next_store_name(self.shards, place, self.is_kept.then_some(self.now));
         let entry = QueueEntry::plain(store, name.clone(), rand::random());
         let queue = Arc::new(Queue::new(&entry));
         self.ask(&queue, Ask::Create { store, visibility: 30, bytes: 1 }).unwrap();
@@ -657,7 +660,7 @@ impl Living {
                 if is_empty && queue.state().count() == 0 && queue.state().purging().is_none() {
                     // No queue does so before it is at rest.
                     self.now += WINDOW;
-                    let store = self.queues.next_store_name(self.shards, self.shards.place_of(&queue.name));
+                    let store = self.queues.next_store_name(self.shards, self.shards.place_of(&queue.name), None);
                     self.ask(queue, Ask::Create { store, visibility: 30, bytes: 0 }).unwrap();
                     let entry = {
                         let state = queue.state();

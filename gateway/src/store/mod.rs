@@ -226,12 +226,12 @@ impl Store {
 
     /// A name of the store for a queue of this name.
     pub fn next_store_name(&self, name: &QueueName) -> StoreName {
-        self.queues.next_store_name(self.shards, self.place_of(name))
+        self.queues.next_store_name(self.shards, self.place_of(name), Some(self.clock.now()))
     }
 
-    /// A name of the store for a book of the program at this place.
-    pub fn next_book(&self, place: usize) -> StoreName {
-        StoreName::of_book(self.queues.next_book(self.shards, place))
+    /// A name of the store for a book of the program at this place. `again`: it may have been that of an earlier one.
+    pub fn next_book(&self, place: usize, again: bool) -> StoreName {
+        StoreName::of_book(self.queues.next_book(self.shards, place, again.then(|| self.clock.now())))
     }
 
     /// A number for the parts of a message of this queue.
@@ -301,10 +301,14 @@ impl Store {
                 let state = queue.state();
                 (state.entry.store, state.entry.attributes.visibility_timeout(), state.own_bytes())
             };
-            store.ask(&queue, Ask::Create { store: name, visibility, bytes }).await?;
+            let place = store.place_of(&queue.name);
+            if let Err(error) = store.ask(&queue, Ask::Create { store: name, visibility, bytes }).await {
+                store.queues.names().give_back(place, name, store.clock.now());
+                return Err(error);
+            }
             let said = store.change(&queue, TableChange::Created).await;
             if said.is_err() {
-                store.queues.left_over().add(store.place_of(&queue.name), [name]);
+                store.queues.left_over().add(place, [name]);
             }
             said
         });

@@ -448,7 +448,12 @@ impl Replay {
                 queue
             }
             // No journal of the gateway's own has any.
-            Entry::Program(_) | Entry::Attempt(_) | Entry::Asked(_) | Entry::Jump(..) | Entry::Older(..) => None,
+            Entry::Program(_)
+            | Entry::Attempt(_)
+            | Entry::Asked(_)
+            | Entry::Jump(..)
+            | Entry::Older(..)
+            | Entry::Book(_) => None,
         }
     }
 

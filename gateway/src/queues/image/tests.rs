@@ -68,6 +68,32 @@ fn the_tables_of_the_bytes_at_any_moment_are_those_that_are_there() {
     );
 }
 
+#[test]
+fn a_queue_that_is_gone_stays_so_while_several_earlier_books_go() {
+    use Step::{BeginBook, Create, EndBook, Remove, RemoveLeftOver, Wait};
+    let mut living = Living::new(Shards::ONE, false, true);
+    let steps = [Create, BeginBook, Remove, RemoveLeftOver, Wait(60_000), BeginBook, EndBook];
+    steps.iter().for_each(|step| living.step("a", step));
+    (0..=living.lines.len()).for_each(|front| compare(&living, front, 3).unwrap());
+}
+
+#[test]
+fn the_tables_of_the_bytes_know_queues_and_books_whose_names_were_used_before() {
+    use Step::{BeginBook, Create, Delay, EndBook, Receive, Remove, RemoveLeftOver, Send, Tag, Take, Wait};
+    let mut living = Living::new(Shards::ONE, false, true);
+    let queue_of = |living: &Living, name| living.queues.find(&QueueName::parse(name).unwrap()).unwrap();
+    for (turn, name) in (1..).zip(["a", "b.fifo", "c", "a"]) {
+        let own = [Create, Send, Delay, Receive(3, 30), Take(true), BeginBook, Tag(1), EndBook];
+        own.iter().for_each(|step| living.step(name, step));
+        let stored = queue_of(&living, name).state().stored_as();
+        assert_eq!((stored.name, stored.incarnation), (StoreName(1), turn));
+        [Remove, RemoveLeftOver, Wait(360_000)].iter().for_each(|step| living.step(name, step));
+    }
+    // The first book of the two whose names come by turns is there, for the third time.
+    assert_eq!(living.queues.books().current(0), Some(1));
+    (0..=living.lines.len()).for_each(|front| compare(&living, front, 3).unwrap());
+}
+
 /// What attempt `x` was given, as a store tells it whose client 3 has asked last by the request 7, which handed out two messages
 /// until `until`, the second one for the time `ordinal`. A book said ahead of it by which request the attempt asks.
 fn given_by(request: (u32, u64), ordinal: u64, until: Moment) -> Option<Vec<Receipt>> {

@@ -22,7 +22,7 @@ use std::sync::Arc;
 
 use uuid::Uuid;
 
-use super::ask::{Ask, Cause, Changer, Delayed, Fate, Handed, Outcome, Reach};
+use super::ask::{Ask, Cause, Changer, Delayed, Fate, Handed, Outcome, Reach, StoredAs};
 use super::book::{AttemptEntry, AttemptRequest, Entry, QueueEntry};
 use super::groups::{Group, Groups};
 use crate::attributes::QueueAttributes;
@@ -30,7 +30,7 @@ use crate::clock::Moment;
 use crate::errors::SqsError;
 use crate::handles::Receipt;
 use crate::limits::{ID_BYTES, MESSAGE_BYTES, QUEUE_BYTES, STORED_ID_BYTES, STORED_MESSAGE_BYTES, STORED_QUEUE_BYTES};
-use crate::lines::{read_receipt, StoreMessage, StoreReply};
+use crate::lines::{read_receipt_of, StoreMessage, StoreReply};
 use crate::messages::{has_parts, own_id, Envelope, EnvelopeHead};
 use crate::move_tasks::{MoveTask, Status};
 use crate::redrive::RedrivePolicy;
@@ -81,6 +81,8 @@ pub struct State {
     kind: QueueKind,
     /// What the book says of it.
     pub entry: QueueEntry,
+    /// Which queue of its name in the store it is.
+    pub incarnation: u64,
     /// The number of the book that says it, and the size of the entry. The same of each of its tasks.
     pub said_in: u64,
     entry_size: u64,
@@ -159,6 +161,7 @@ impl State {
         State {
             kind,
             entry: entry.clone(),
+            incarnation: 1,
             said_in: 0,
             entry_size: 0,
             tasks_said_in: HashMap::new(),
@@ -186,6 +189,11 @@ impl State {
             calls: Calls::default(),
             vain_sweep: None,
         }
+    }
+
+    /// How it stands in the store.
+    pub fn stored_as(&self) -> StoredAs {
+        StoredAs { name: self.entry.store, incarnation: self.incarnation, base: self.entry.base }
     }
 
     /// Applies the store's reply to an ask of `moment`.
@@ -372,7 +380,7 @@ impl State {
 
     fn hand(&mut self, given: StoreMessage, receiving: &Receiving<'_>) -> Result<(Handed, Option<Fate>), SqsError> {
         let moment = receiving.moment;
-        let receipt = read_receipt(&given.receipt, self.entry.base).ok_or_else(misfit)?;
+        let receipt = read_receipt_of(&given.receipt, self.stored_as()).ok_or_else(misfit)?;
         self.hide(receipt.sequence, receiving.until);
         let message = self.messages.get_mut(receipt.sequence).ok_or_else(misfit)?;
         let first = message.last.map_or(moment, |last| last.first);

@@ -29,6 +29,7 @@ impl State {
         (last, far): (Moment, &AtomicU64),
         keeps_copies: bool,
     ) -> Named {
+        self.incarnation = stored.incarnation;
         self.last_sequence = self.entry.base + stored.sent;
         let (mut named, mut texts) = (Named::default(), HashMap::new());
         self.messages.expect(stored.messages.len());
@@ -177,7 +178,11 @@ impl State {
         let entry = self.entry.store.main().is_none().then_some(&self.entry);
         let of_entries = (self.said_in, self.entry_size, said_in);
         let sends = (self.last_sequence, &self.recent, self.left_ids, self.calls.told());
-        format!("{entry:?} {of_entries:?} {tasks:?} {sends:?} {:?} {next:?} {messages:?} {older}", self.due.told())
+        let incarnation = self.incarnation;
+        format!(
+            "{entry:?} {incarnation} {of_entries:?} {tasks:?} {sends:?} {:?} {next:?} {messages:?} {older}",
+            self.due.told()
+        )
     }
 }
 

@@ -11,7 +11,7 @@ use crate::frames;
 use crate::handles::Receipt;
 use crate::limits::{GONE_NAME_BYTES, STORED_NAME_BYTES};
 use crate::lines::AskFields;
-use crate::queues::ask::{Ask, Cause, Outcome, StoreName, TableChange};
+use crate::queues::ask::{Ask, Cause, Outcome, StoreName, StoredAs, TableChange};
 use crate::queues::book::{self, AttemptRequest};
 use crate::queues::{Queue, State};
 use crate::store::{Answer, Operation};
@@ -79,16 +79,16 @@ impl Task {
     fn start_ask(&mut self, queue: Arc<Queue>, ask: Ask) -> Result<StartOutcome, Ended> {
         let ready = |answer| Ok(StartOutcome::ready(answer));
         let moment = self.clock.now();
-        let (store, base, removed, is_rescoped, ask) = {
+        let (stored, removed, is_rescoped, ask) = {
             let state = queue.state();
-            let (entry, is_rescoped) = (&state.entry, state.has_ids_of_other_scope(moment));
-            (entry.store, entry.base, state.removed, is_rescoped, with_last_receipt(ask, &state))
+            let is_rescoped = state.has_ids_of_other_scope(moment);
+            (state.stored_as(), state.removed, is_rescoped, with_last_receipt(ask, &state))
         };
         // The store may have it for a while.
         if removed {
             return ready(Err(SqsError::QueueDoesNotExist));
         }
-        if let Some(answer) = answer_about_earlier(&ask, base) {
+        if let Some(answer) = answer_about_earlier(&ask, stored.base) {
             return ready(answer);
         }
         let ask = match within_reach(ask, &queue, moment) {
@@ -122,7 +122,7 @@ impl Task {
             }
         }
         let ask = stamped(ask, &queue, moment);
-        let written = frames::ask(&AskFields::of(store, base, &ask))?;
+        let written = frames::ask(&AskFields::of(stored, &ask))?;
         if !self.takes_names(&ask) {
             self.counters.count_lack_of_room();
             return ready(Err(SqsError::OverLimit("There is no room for the names of more queues.".into())));
@@ -138,14 +138,16 @@ impl Task {
         self.ask_admitted(queue, ask, written, moment, weight)
     }
 
-    /// Whether names of queues that are gone leave room for those of more, if this makes a queue.
+    /// Whether names of queues that are gone leave room for this one, if this makes a queue of a name that the store hasn't had.
     fn takes_names(&self, ask: &Ask) -> bool {
-        if !adds(ask) || !matches!(ask, Ask::Create { .. }) {
-            return true;
+        let (names, place) = (self.queues.names(), self.shard.place());
+        match ask {
+            Ask::Create { store, .. } if adds(ask) && names.is_new(place, *store) => {
+                self.space.takes_names(STORED_NAME_BYTES * names.gone(place))
+                    && self.admission.memory.takes_names(GONE_NAME_BYTES * names.all_gone())
+            }
+            _ => true,
         }
-        let names = self.queues.gone_names();
-        let stored = STORED_NAME_BYTES * names.of(self.shard.place());
-        self.space.takes_names(stored) && self.admission.memory.takes_names(GONE_NAME_BYTES * names.all())
     }
 
     /// Whether the program's file has space for so many bytes more that stay, if this adds them.
@@ -219,7 +221,7 @@ impl Task {
         let Some(book) = self.queues.books().current(self.shard.place()) else { return Ok(true) };
         let Some(client) = self.clients.take(false) else { return Ok(false) };
         let ask = Ask::Say { book, text: entry.text()?, entry: Arc::new(entry) };
-        let written = frames::ask(&AskFields::of(StoreName::of_book(book), 0, &ask))?;
+        let written = frames::ask(&AskFields::of(StoredAs::first(StoreName::of_book(book)), &ask))?;
         let (queue, number) = (queue.clone(), self.next_number());
         let asked =
             OpenAsk { queue, ask, written, moment, client, number, weight: 0, ends: 0, is_done: false, original: None };
@@ -373,7 +375,7 @@ impl Task {
             return Ok(StartOutcome::ready(Err(SqsError::InvalidParameterValue(message.into()))));
         }
         let ask = Ask::Say { book, entry: Arc::new(entry), text };
-        let written = frames::ask(&AskFields::of(StoreName::of_book(book), 0, &ask))?;
+        let written = frames::ask(&AskFields::of(StoredAs::first(StoreName::of_book(book)), &ask))?;
         self.ask_admitted(queue, ask, written, self.clock.now(), weight)
     }
 }
