@@ -139,7 +139,10 @@ mod tests {
 
     #[test]
     fn a_terminal_is_told_nothing_but_text() {
-        assert_eq!(escaped("unknown field `\x1b[2J\x1b]0;owned\x07é`\nline 2\x7f\u{9b}"), "unknown field `\\u001b[2J\\u001b]0;owned\\u0007é`\nline 2\\u007f\\u009b");
+        assert_eq!(
+            escaped("unknown field `\x1b[2J\x1b]0;owned\x07é`\nline 2\x7f\u{9b}"),
+            "unknown field `\\u001b[2J\\u001b]0;owned\\u0007é`\nline 2\\u007f\\u009b"
+        );
     }
 
     #[test]
