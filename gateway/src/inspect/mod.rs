@@ -133,6 +133,10 @@ pub fn back_up(program: &str, path: &Path, copy: &Path, out: &mut impl Write) ->
         bail!("{} is there: a copy needs a name that nothing has", file.display());
     }
     test_count(program, path, &files)?;
+    // A copy has what can be read: nobody could see there what a damaged file has lost.
+    for file in &files {
+        ask(program, "verify", &[file], Stdio::piped())?;
+    }
     let copies: Vec<_> = (1..=files.len()).map(|number| with_suffix(copy, &format!("cq{number}"))).collect();
     let copied = files
         .iter()
