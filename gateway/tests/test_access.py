@@ -227,9 +227,11 @@ LINKS = ["Action=CreateQueue&QueueName=made", "Action=DeleteQueue&QueueUrl=q", "
          "Action=ChangeMessageVisibility&QueueUrl=q&ReceiptHandle=a&VisibilityTimeout=0", "Action=DeleteMessage&QueueUrl=q&ReceiptHandle=a",
          "Action=SetQueueAttributes&QueueUrl=q&Attribute.Name=DelaySeconds&Attribute.Value=9", "Action=TagQueue&QueueUrl=q&Tag.Key=a&Tag.Value=b",
          "Action=UntagQueue&QueueUrl=q&TagKey=a", "Action=StartMessageMoveTask&SourceArn=a", "Action=CancelMessageMoveTask&TaskHandle=a",
-         "Action=SendMessageBatch&QueueUrl=q&Entry.Id=a&Entry.MessageBody=x", "Action=DeleteMessageBatch&QueueUrl=q&Entry.Id=a&Entry.ReceiptHandle=a",
-         "Action=ChangeMessageVisibilityBatch&QueueUrl=q&Entry.Id=a&Entry.ReceiptHandle=a&Entry.VisibilityTimeout=0",
-         "Action=AddPermission&QueueUrl=q&Label=a&AWSAccountId=1&ActionName=SendMessage", "Action=RemovePermission&QueueUrl=q&Label=a"]
+         "Action=SendMessageBatch&QueueUrl=q&SendMessageBatchRequestEntry.1.Id=a&SendMessageBatchRequestEntry.1.MessageBody=x",
+         "Action=DeleteMessageBatch&QueueUrl=q&DeleteMessageBatchRequestEntry.1.Id=a&DeleteMessageBatchRequestEntry.1.ReceiptHandle=a",
+         "Action=ChangeMessageVisibilityBatch&QueueUrl=q" + "".join(
+             f"&ChangeMessageVisibilityBatchRequestEntry.1.{name}" for name in ("Id=a", "ReceiptHandle=a", "VisibilityTimeout=0")),
+         "Action=AddPermission&QueueUrl=q&Label=a&AWSAccountId.1=123456789012&ActionName.1=SendMessage", "Action=RemovePermission&QueueUrl=q&Label=a"]
 
 MADE_UP = "&X-Amz-Algorithm=AWS4-HMAC-SHA256&X-Amz-Credential=A%2F20150830%2Fus-east-1%2Fsqs%2Faws4_request&X-Amz-Signature=00"
 

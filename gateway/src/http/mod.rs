@@ -19,7 +19,7 @@ use bytes::Bytes;
 use hyper::header::{HeaderMap, HeaderName, HeaderValue, AUTHORIZATION, CONNECTION, CONTENT_TYPE};
 use hyper::http::request::Parts;
 use hyper::upgrade::OnUpgrade;
-use hyper::{Body, Method, Request, Response, StatusCode};
+use hyper::{Body, Request, Response, StatusCode};
 use tokio::time::Instant;
 use uuid::Uuid;
 
@@ -220,7 +220,6 @@ impl Connection {
         let protocol = protocol_of(&head.headers);
         let read = match body {
             _ if length_of_head(&head) > LONGEST_HEAD => Err(Unread::LongHead),
-            _ if ![Method::POST, Method::GET, Method::HEAD].contains(&head.method) => Err(Unread::Method),
             Ok(bytes) => self.clone().read(protocol, &head, &bytes, &mut log),
             Err(error) => Err(Unread::Refused { error, closes: true }),
         };

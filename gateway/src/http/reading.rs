@@ -3,7 +3,7 @@
 use bytes::Bytes;
 use hyper::header::{HeaderValue, ALLOW, CONNECTION};
 use hyper::http::request::Parts;
-use hyper::{Response, StatusCode};
+use hyper::{Method, Response, StatusCode};
 use uuid::Uuid;
 
 use super::{address, refused, text_of, TARGET};
@@ -42,8 +42,11 @@ impl Unread {
     }
 }
 
-/// What says what is asked. There is nothing at a path that is no queue's and not `/`.
+/// What says what is asked. There is nothing at a path that is no queue's and not `/`, and no other methods than these.
 pub fn incoming<'a>(head: &'a Parts, body: &'a [u8]) -> Result<Incoming<'a>, Unread> {
+    if ![Method::POST, Method::GET, Method::HEAD].contains(&head.method) {
+        return Err(Unread::Method);
+    }
     Ok(Incoming {
         target: text_of(&head.headers, &TARGET),
         path_queue: address::queue_of_path(head.uri.path()).map_err(|_| Unread::NotFound)?,
