@@ -17,7 +17,7 @@ from urllib.parse import urlsplit
 
 import boto3
 import pytest
-from botocore.auth import SigV4Auth
+from botocore.auth import SigV4Auth, SigV4QueryAuth
 from botocore.awsrequest import AWSRequest
 from botocore.config import Config
 from botocore.credentials import Credentials
@@ -276,10 +276,11 @@ def test_no_link_commands_a_gateway_without_keys(words):
 
 
 def test_a_presigned_link_does_what_its_key_may(gateway):
-    admin = client(gateway, "ADMIN", SECRETS["ADMIN"])
-    url = admin.generate_presigned_url("create_queue", Params={"QueueName": "by-link"}, ExpiresIn=60, HttpMethod="GET")
-    assert status_of(url, {})[0] == 200
-    assert any(url.endswith("/by-link") for url in admin.list_queues()["QueueUrls"])
+    request = AWSRequest("GET", f"{gateway.url}/?Action=CreateQueue&QueueName=by-link")
+    SigV4QueryAuth(Credentials("ADMIN", SECRETS["ADMIN"]), "sqs", "us-east-1", expires=60).add_auth(request)
+    assert status_of(request.url, {})[0] == 200
+    urls = client(gateway, "ADMIN", SECRETS["ADMIN"]).list_queues()["QueueUrls"]
+    assert any(url.endswith("/by-link") for url in urls)
 
 
 def test_no_page_is_told_bodies_on_any_address():
