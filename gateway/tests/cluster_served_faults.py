@@ -2,6 +2,7 @@
 
 from __future__ import annotations
 
+import json
 import signal
 import time
 from collections.abc import Callable
@@ -214,6 +215,28 @@ class ServedFaults(Faults):
             etcd.kill([place])
             self.after(seconds, lambda: etcd.begin_again([place]))
 
+    def slow_etcd(self) -> None:
+        """Each way between nodes and etcd takes so long, and they say so."""
+        slowed = [node for node in self.cluster.nodes if node.proxy and node.look() and node.lives()]
+        if not slowed or self.etcd_is_touched():
+            return
+        delay, seconds = self.random.choice([0.25, 0.5]), self.random.choice([6, 15])
+        fault = self.note("a slow etcd", delay, seconds)
+        self.touch_etcd(seconds + 8, is_away=False)
+        for node in slowed:
+            node.proxy.delay(delay)
+        said = self.until(seconds, lambda: self.slowest_of(slowed) >= 2000 * delay)
+        for node in slowed:
+            node.proxy.delay(0)
+        fault.about.append(f"{self.slowest_of(slowed)} ms")
+        assert said or not any(node.lives() for node in slowed), f"no node says that etcd is slow: {fault}"
+
+    def slowest_of(self, nodes: list[Node]) -> int:
+        """The longest that one of these waited for etcd, in milliseconds, as its beat says."""
+        beats = self.cluster.etcd.read(f"{self.cluster.root}/beat/")
+        said = [json.loads(beats.get(f"{self.cluster.root}/beat/{node.server}", "{}")) for node in nodes]
+        return max([beat.get("slowest", 0) for beat in said], default=0)
+
     def put_etcd_back(self) -> None:
         """All members end, and go on with a copy of what they had a while ago. No candidate appends anything from the copy on,
         nobody registers and nobody joins: only beats are lost, as is promised (docs/CLUSTER.md, "What it rests on")."""
@@ -390,7 +413,7 @@ class ServedFaults(Faults):
                  (self.kill_young, 2), (self.touch_child, 3), (self.kill_old_tail, 3), (self.kill_head_alone, 4), (self.step_clock, 2)]
         disks = [(self.fill_disk, 3), (self.hang_disk, 3)]
         masters = [(self.kill_master, 2), (self.stop_master, 2), (self.touch_child_of_master, 2)]
-        etcd = [(self.stop_etcd, 4), (self.kill_etcd, 2), (self.put_etcd_back, 2)]
+        etcd = [(self.stop_etcd, 4), (self.kill_etcd, 2), (self.slow_etcd, 2), (self.put_etcd_back, 2)]
         gateways = [(self.kill_gateway, 3), (self.kill_gateway_between_asks, 4), (self.stop_gateway, 4), (self.cut_from_fronts, 3)]
         fronts = [(self.kill_front, 2), (self.stop_front, 2)]
         links = [(self.cut_from_etcd, 5), (self.cut_links, 6), (self.cut_head_off, 3), (self.lose_packets, 4)]

@@ -295,8 +295,8 @@ def test_who_stood_still_looks_first_and_goes_on(tmp_path):
             logs = [node.log.read_text().count("this process stood still") for node in cluster.nodes]
             for node in cluster.nodes:
                 node.go_on()
-            # Without etcd that takes two seconds, for which it may be on its way.
-            wait(3 if with_etcd else 6, lambda: len(users.records) > before + 20, "requests don't go on")
+            # Without etcd that takes until a look has failed, since an answer may be on its way.
+            wait(3 if with_etcd else 10, lambda: len(users.records) > before + 20, "requests don't go on")
             for node, count in zip(cluster.nodes, logs):
                 assert node.log.read_text().count("this process stood still") > count
                 node.logs("etcd was looked at, and all goes on")
@@ -320,7 +320,7 @@ def test_a_front_that_stood_still_goes_on_without_etcd(tmp_path):
         served.front.process.send_signal(signal.SIGCONT)
         begun = time.monotonic()
         assert served.sqs.list_queues()["QueueUrls"]
-        assert 1.5 < time.monotonic() - begun < 6
+        assert 1.5 < time.monotonic() - begun < 10
         wait(5, lambda: "has_read=false" in served.front.log.read_text(), "it didn't know that it stood still")
     finally:
         print(served.cluster.said())

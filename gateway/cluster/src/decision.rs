@@ -217,6 +217,7 @@ mod tests {
 
     use super::*;
     use crate::records::{Beat, Failing, GatewayPhase, Readiness, Witnesses, DISK_HANGS};
+    use crate::silence::Look;
 
     const HALF: Duration = Duration::from_millis(500);
 
@@ -258,7 +259,8 @@ mod tests {
                     let said = self.said.get(&server).cloned().unwrap_or_default();
                     (server, revision, Beat { joins: joins == Some(server), hears: hears(server), condemned, ..said })
                 };
-                self.silence.look(beats.map(with_beat).collect(), &self.roster, self.now);
+                let beats = beats.map(with_beat).collect();
+                self.silence.look(Look { beats, began: self.now, slowest: Duration::ZERO }, &self.roster);
             }
         }
 

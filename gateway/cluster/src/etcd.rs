@@ -1,11 +1,11 @@
 //! A client of etcd, by its HTTP and JSON gateway.
 //!
-//! A member that doesn't answer within a short time is left for the next one. A transaction whose answer is lost may
-//! have happened: what its caller reads next says so.
+//! A member that says nothing for a short time isn't waited for alone: the next one is asked as well. A transaction whose
+//! answer is lost may have happened, and one that two members were asked for, too: what its caller reads next says so.
 
 use std::net::IpAddr;
 use std::sync::atomic::{AtomicUsize, Ordering};
-use std::sync::Arc;
+use std::sync::{Arc, Mutex};
 use std::time::Duration;
 
 use anyhow::{anyhow, bail, Result};
@@ -14,16 +14,20 @@ use hyper::{Body, Client, Request, Response, Uri};
 use serde_json::{json, Value};
 use thiserror::Error;
 use tokio::sync::Notify;
-use tokio::time::{sleep, timeout};
+use tokio::task::JoinSet;
+use tokio::time::{sleep, timeout, timeout_at, Instant};
 
 use crate::identity::{Identity, Role};
+use crate::lock;
+use crate::slowness::Slowest;
 use crate::transport::Connector;
 
-/// A member has so long to answer.
-const PATIENCE: Duration = Duration::from_millis(400);
+/// A member that says nothing for so long isn't waited for alone, as long as another one wasn't asked. Behind that it is twice as
+/// long.
+pub const SOON: Duration = Duration::from_millis(400);
 
-/// It has so long where a command begins, which tries it once.
-const FIRST_PATIENCE: Duration = Duration::from_secs(3);
+/// An answer is waited for so long, and a connection.
+pub const LONGEST: Duration = Duration::from_secs(3);
 
 /// A watch that says nothing for so long is begun anew, at the next member.
 const QUIET: Duration = Duration::from_secs(5);
@@ -82,8 +86,21 @@ pub struct Outcome {
 pub struct Etcd {
     client: Client<Connector>,
     members: Arc<Vec<String>>,
+    /// The member that answered last: it is asked first.
     at: Arc<AtomicUsize>,
-    patience: Duration,
+    slowest: Arc<Mutex<Slowest>>,
+}
+
+/// What comes of the members that were asked.
+type Answers = JoinSet<(usize, Result<Value, EtcdError>)>;
+
+/// What was heard of them for a while.
+enum Heard {
+    /// This member answers.
+    Answer(usize, Value),
+    /// One doesn't and another one wasn't asked, or all were asked and none does.
+    Failure,
+    Silence,
 }
 
 impl Etcd {
@@ -94,18 +111,19 @@ impl Etcd {
         }
         let test = if identity.is_some() { secured } else { loopback };
         let members = urls.iter().map(|url| test(url)).collect::<Result<Vec<_>>>()?;
-        let connector = Connector::new(identity, Role::Etcd, PATIENCE);
+        let connector = Connector::new(identity, Role::Etcd, LONGEST);
         let at = rand::random::<usize>() % members.len();
         let client = Client::builder().pool_max_idle_per_host(2).build(connector);
-        Ok(Etcd { client, members: Arc::new(members), at: Arc::new(AtomicUsize::new(at)), patience: FIRST_PATIENCE })
+        Ok(Etcd { client, members: Arc::new(members), at: Arc::new(AtomicUsize::new(at)), slowest: Arc::default() })
     }
 
-    /// For who tries again and again: a member that is silent is soon left for another one.
-    pub fn impatient(self) -> Etcd {
-        Etcd { patience: PATIENCE, ..self }
+    /// The longest that this process has waited for an answer lately.
+    pub fn slowest(&self) -> Duration {
+        lock(&self.slowest).longest(Instant::now())
     }
 
-    /// What is done if all guards hold, and else.
+    /// What is done if all guards hold, and else. It ends within [`LONGEST`] and [`SOON`] for each member but one. Where members
+    /// are slow it may be done more than once, also behind its end: guards have to say where that isn't to be.
     pub async fn transact(
         &self,
         guards: &[Guard],
@@ -118,24 +136,43 @@ impl Etcd {
             "failure": otherwise.iter().map(Operation::json).collect::<Vec<_>>(),
         })
         .to_string();
-        let mut why = String::new();
-        for _ in 0..self.members.len() {
-            let member = self.at.load(Ordering::Relaxed) % self.members.len();
-            match timeout(self.patience, self.post(member, "/v3/kv/txn", body.clone())).await {
-                Ok(Ok(answer)) => return outcome(&answer).ok_or_else(|| EtcdError::Refused("it is no answer".into())),
-                Ok(Err(EtcdError::Refused(said))) => why = said,
-                Ok(Err(EtcdError::Unreachable(said))) => why = said,
-                Err(_) => why = format!("{} is silent", self.members[member]),
-            }
-            self.leave(member);
-        }
-        Err(EtcdError::Unreachable(why))
+        let answer = self.call("/v3/kv/txn", body).await?;
+        outcome(&answer).ok_or_else(|| EtcdError::Refused("it is no answer".into()))
     }
 
-    /// The next request goes to the next member, unless another task has left this one.
-    fn leave(&self, member: usize) {
-        let next = (member + 1) % self.members.len();
-        let _ = self.at.compare_exchange(member, next, Ordering::Relaxed, Ordering::Relaxed);
+    /// What the first member says that answers. One after the other is asked, and whoever was asked is heard until the end. Behind
+    /// a cut a new request goes through earlier than TCP repeats an old one.
+    async fn call(&self, path: &'static str, body: String) -> Result<Value, EtcdError> {
+        let (begun, count, first) = (Instant::now(), self.members.len(), self.at.load(Ordering::Relaxed));
+        let end = begun + LONGEST + SOON * (count as u32 - 1);
+        let mut asked = Answers::new();
+        let mut why = None;
+        for turn in 0.. {
+            let member = (first + turn) % count;
+            let (etcd, body) = (self.clone(), body.clone());
+            asked.spawn(async move { (member, etcd.post(member, path, body).await) });
+            let is_last = turn + 1 >= count;
+            match hear(&mut asked, end.min(Instant::now() + pause(turn / count)), is_last, &mut why).await {
+                Heard::Answer(member, answer) => {
+                    self.at.store(member, Ordering::Relaxed);
+                    self.note(begun, end);
+                    return Ok(answer);
+                }
+                Heard::Failure if is_last => break,
+                _ if Instant::now() >= end => break,
+                _ => {}
+            }
+        }
+        self.at.store((first + 1) % count, Ordering::Relaxed);
+        Err(why.unwrap_or_else(|| EtcdError::Unreachable(format!("{} is silent", self.members[first % count]))))
+    }
+
+    /// An answer came. Behind its end this process stood still, and how slow etcd is isn't known.
+    fn note(&self, begun: Instant, end: Instant) {
+        let now = Instant::now();
+        if now <= end + SOON {
+            lock(&self.slowest).note(now - begun, now);
+        }
     }
 
     async fn ask(&self, member: usize, path: &str, body: String) -> Result<Response<Body>, EtcdError> {
@@ -176,13 +213,40 @@ impl Etcd {
     async fn watch_at(&self, member: usize, prefix: &str, look: &Notify) -> Result<()> {
         let asked =
             json!({"create_request": {"key": base64::encode(prefix), "range_end": base64::encode(behind(prefix))}});
-        let answer = timeout(PATIENCE, self.ask(member, "/v3/watch", asked.to_string())).await??;
+        let answer = timeout(LONGEST, self.ask(member, "/v3/watch", asked.to_string())).await??;
         let mut body = answer.into_body();
         while let Some(chunk) = timeout(QUIET, body.data()).await? {
             chunk?;
             look.notify_one();
         }
         Ok(())
+    }
+}
+
+/// For how long one that was asked in that round is waited for before the next one is asked. Where etcd takes long for writes alone,
+/// the beats that a node asks for come as often, so this is less than what is silent.
+fn pause(round: usize) -> Duration {
+    if round == 0 {
+        SOON
+    } else {
+        2 * SOON
+    }
+}
+
+/// What is heard by then of those that were asked. Unless all were asked, a failure is heard at once, since the next one may do.
+async fn hear(asked: &mut Answers, until: Instant, is_last: bool, why: &mut Option<EtcdError>) -> Heard {
+    loop {
+        let heard = match timeout_at(until, asked.join_next()).await {
+            Ok(Some(Ok((member, Ok(answer))))) => return Heard::Answer(member, answer),
+            Ok(Some(Ok((_, Err(error))))) => error,
+            Ok(Some(Err(error))) => EtcdError::Unreachable(error.to_string()),
+            Ok(None) => return Heard::Failure,
+            Err(_) => return Heard::Silence,
+        };
+        *why = Some(heard);
+        if !is_last {
+            return Heard::Failure;
+        }
     }
 }
 
@@ -286,6 +350,9 @@ fn entry(found: &Value) -> Option<Entry> {
 
 #[cfg(test)]
 mod tests {
+    use tokio::io::{AsyncReadExt, AsyncWriteExt};
+    use tokio::net::TcpListener;
+
     use super::*;
 
     #[test]
@@ -306,6 +373,80 @@ mod tests {
         assert!(outcome(&json!({"error": "x"})).is_none());
         let bad = json!({"header": {}, "responses": [{"response_range": {"kvs": [{"key": "%"}]}}]});
         assert!(outcome(&bad).is_none());
+    }
+
+    /// A member that answers with this status behind a time; one without an answer is silent.
+    async fn member(answers: Option<(Duration, u16, &'static str)>) -> String {
+        let listener = TcpListener::bind("127.0.0.1:0").await.unwrap();
+        let url = format!("http://{}", listener.local_addr().unwrap());
+        tokio::spawn(async move {
+            while let Ok((mut stream, _)) = listener.accept().await {
+                tokio::spawn(async move {
+                    let mut bytes = [0; 4096];
+                    while matches!(stream.read(&mut bytes).await, Ok(1..)) {
+                        let Some((time, status, said)) = answers else { continue };
+                        sleep(time).await;
+                        let head = format!("HTTP/1.1 {status} x\r\ncontent-length: {}\r\n\r\n", said.len());
+                        let _ = stream.write_all((head + said).as_bytes()).await;
+                    }
+                });
+            }
+        });
+        url
+    }
+
+    const GOOD: &str = r#"{"header":{"revision":"1"},"succeeded":true}"#;
+
+    async fn asked(urls: &[String]) -> (Result<Outcome, EtcdError>, Duration, Etcd) {
+        let etcd = Etcd::new(urls, None).unwrap();
+        etcd.at.store(0, Ordering::Relaxed);
+        let begun = Instant::now();
+        let outcome = etcd.transact(&[], &[Operation::Get("a".into())], &[]).await;
+        (outcome, begun.elapsed(), etcd)
+    }
+
+    #[tokio::test]
+    async fn a_slow_member_is_waited_for() {
+        let slow = member(Some((Duration::from_millis(1500), 200, GOOD))).await;
+        let (outcome, _, etcd) = asked(&[slow]).await;
+        assert!(outcome.unwrap().succeeded && etcd.slowest() >= Duration::from_millis(1500));
+    }
+
+    #[tokio::test]
+    async fn beside_a_silent_member_the_next_one_is_asked_and_stays_the_first() {
+        let urls = [member(None).await, member(Some((SOON / 2, 200, GOOD))).await];
+        let (outcome, took, etcd) = asked(&urls).await;
+        assert!(outcome.unwrap().succeeded && (SOON..LONGEST).contains(&took), "{took:?}");
+        assert_eq!(etcd.at.load(Ordering::Relaxed), 1);
+    }
+
+    #[tokio::test]
+    async fn beside_one_that_is_slow_and_one_that_is_silent_the_slow_one_is_heard() {
+        let urls = [member(Some((3 * SOON, 200, GOOD))).await, member(None).await];
+        let (outcome, took, etcd) = asked(&urls).await;
+        assert!(outcome.unwrap().succeeded && took >= 3 * SOON, "{took:?}");
+        assert_eq!(etcd.at.load(Ordering::Relaxed), 0);
+    }
+
+    #[tokio::test]
+    async fn where_all_are_silent_there_is_an_end() {
+        let urls = [member(None).await, member(None).await];
+        let (outcome, took, etcd) = asked(&urls).await;
+        let said = outcome.unwrap_err().to_string();
+        assert!(said.starts_with("no member of etcd answers: http://") && said.ends_with("is silent"), "{said}");
+        assert!(took >= LONGEST + SOON && etcd.slowest() == Duration::ZERO, "{took:?}");
+        assert_eq!(etcd.at.load(Ordering::Relaxed), 1);
+    }
+
+    #[tokio::test]
+    async fn of_those_that_refuse_each_is_asked_once_and_at_once() {
+        let refuses = member(Some((Duration::ZERO, 503, "no leader"))).await;
+        let gone = "http://127.0.0.1:1".to_string();
+        let (outcome, took, _) = asked(&[gone.clone(), refuses.clone()]).await;
+        assert!(matches!(outcome.unwrap_err(), EtcdError::Refused(said) if said == "no leader"));
+        assert!(took < LONGEST, "{took:?}");
+        let (outcome, ..) = asked(&[gone, refuses, member(Some((Duration::ZERO, 200, GOOD))).await]).await;
+        assert!(outcome.unwrap().succeeded);
     }
 
     #[test]

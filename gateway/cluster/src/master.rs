@@ -18,7 +18,7 @@ use crate::decision::{Decision, Letter, View};
 use crate::etcd::{Entry, EtcdError, Guard, Operation};
 use crate::records::{self, last_number, server_and_number, Beat, Cluster, Line, Piece};
 use crate::roster::Roster;
-use crate::silence::Silence;
+use crate::silence::{Look, Silence};
 
 /// A candidate looks so often, and whenever something may have changed.
 const ROUND: Duration = Duration::from_millis(500);
@@ -177,6 +177,8 @@ pub struct Master {
     begun: Instant,
     why: Option<String>,
     contact: Contact,
+    /// The same of what this candidate writes.
+    writing: Contact,
     /// Servers whose next message `cq master` can't read.
     unreadable: BTreeSet<u32>,
 }
@@ -197,6 +199,7 @@ pub async fn run(cluster: Cluster, program: &str) -> Result<()> {
         begun: Instant::now(),
         why: None,
         contact: Contact::default(),
+        writing: Contact::default(),
         unreadable: BTreeSet::new(),
     };
     tracing::info!(cluster = %master.cluster.name, "a candidate for the master begins");
@@ -234,7 +237,8 @@ impl Master {
         }
         let mut letters = round.letters;
         letters.retain(|letter| !self.unreadable.contains(&letter.server));
-        self.silence.look(round.beats, &self.roster, began);
+        let look = Look { beats: round.beats, began, slowest: self.cluster.etcd.slowest() };
+        self.silence.look(look, &self.roster);
         let view = View {
             keys: &self.cluster.keys,
             roster: &self.roster,
@@ -349,19 +353,21 @@ impl Master {
         }));
         operations.extend(also);
         self.open = Some((line, orders));
-        match self.cluster.etcd.transact(&guards, &operations, &[]).await {
-            Ok(outcome) if outcome.succeeded => {
-                if let Some((line, _)) = self.open.clone() {
-                    self.hear(line).await?;
-                }
-                Ok(true)
+        let written = self.cluster.etcd.transact(&guards, &operations, &[]).await;
+        if let Err(error) = &written {
+            if self.writing.lose(error.to_string()) {
+                tracing::warn!(%error, "a line isn't appended");
             }
-            // The next read says what is there.
-            _ => {
-                sleep(STEP_BACK).await;
-                Ok(true)
-            }
+        } else if self.writing.regain() {
+            tracing::info!("lines are appended again");
         }
+        let has_written = written.is_ok_and(|outcome| outcome.succeeded);
+        match self.open.clone() {
+            Some((line, _)) if has_written => self.hear(line).await?,
+            // The next read says what is there.
+            _ => sleep(STEP_BACK).await,
+        }
+        Ok(true)
     }
 }
 

@@ -181,6 +181,9 @@ pub struct Beat {
     /// The disk of its journal, if it keeps one.
     #[serde(default, skip_serializing_if = "Option::is_none")]
     pub disk: Option<Disk>,
+    /// How long it waited for etcd lately, in milliseconds; 0 where that was no longer than is usual.
+    #[serde(default, skip_serializing_if = "is_zero")]
+    pub slowest: u64,
 }
 
 /// How much room a disk has, in bytes.
@@ -506,12 +509,12 @@ impl Cluster {
         Ok(is_there.then(|| Cluster { name: name.into(), etcd, settings, keys, identity }))
     }
 
-    /// For who goes on for long: it tries again and again, and its log says where its certificate expires soon.
+    /// For who goes on for long: its log says where its certificate expires soon.
     pub fn for_long(self) -> Cluster {
         if let Some(identity) = self.identity.clone() {
             tokio::spawn(identity.tell_of_end());
         }
-        Cluster { etcd: self.etcd.impatient(), ..self }
+        self
     }
 
     /// That this cluster is still the one of its name.

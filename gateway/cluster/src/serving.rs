@@ -120,10 +120,11 @@ impl Serving {
         self.ready.get(&member).is_some_and(|since| contact.saturating_sub(*since) > PATIENCE)
     }
 
-    /// Why the head hasn't served for long, if it hasn't, by what it says now.
-    pub fn fault(&self, head: u32, said: &Beat, contact: Duration) -> Option<Fault> {
-        let is_old = |since: Duration, patience| contact.saturating_sub(since) > patience;
-        let row = self.rows.get(&head).filter(|row| is_old(row.since, PATIENCE) && !is_old(row.grown, PATIENCE));
+    /// Why the head hasn't served for long, if it hasn't, by what it says now. What it says may come late by the grace.
+    pub fn fault(&self, head: u32, said: &Beat, contact: Duration, grace: Duration) -> Option<Fault> {
+        let is_old = |since: Duration, patience| contact.saturating_sub(since) > patience + grace;
+        let has_grown = |row: &Row| contact.saturating_sub(row.grown) <= PATIENCE;
+        let row = self.rows.get(&head).filter(|row| is_old(row.since, PATIENCE) && has_grown(row));
         let fails = row.and_then(|_| failure(said));
         let stands = self.reading.filter(|(known, _, since)| *known == head && is_old(*since, PATIENCE));
         let unreached = self.unreached.filter(|(known, since)| *known == head && is_old(*since, UNREACHED));
@@ -220,7 +221,7 @@ mod tests {
         }
 
         fn fault(&self) -> Option<Fault> {
-            self.serving.fault(1, &self.beats[&1], self.contact)
+            self.serving.fault(1, &self.beats[&1], self.contact, Duration::ZERO)
         }
     }
 
@@ -307,7 +308,10 @@ mod tests {
         looks.roster.members.remove(0);
         looks.beats.get_mut(&2).unwrap().failing = failing(5);
         looks.look(3, acts);
-        assert_eq!(looks.serving.fault(2, &looks.beats[&2], looks.contact), Some(Fault::Fails("no keys".into())));
+        assert_eq!(
+            looks.serving.fault(2, &looks.beats[&2], looks.contact, Duration::ZERO),
+            Some(Fault::Fails("no keys".into()))
+        );
     }
 
     #[test]
@@ -352,7 +356,7 @@ mod tests {
         let said = looks.beats.remove(&1).unwrap();
         looks.contact += HALF;
         looks.serving.look(&looks.roster, looks.contact, |server| looks.beats.get(&server));
-        assert_eq!(looks.serving.fault(1, &said, looks.contact), None);
+        assert_eq!(looks.serving.fault(1, &said, looks.contact, Duration::ZERO), None);
     }
 
     /// For so many seconds fronts say this to each of the three servers.
@@ -406,7 +410,7 @@ mod tests {
         // It is about another head from now on.
         looks.roster.members.remove(0);
         hear(&mut looks, 3, [None, said(2, 0, 0), said(2, 0, 1)]);
-        assert_eq!(looks.serving.fault(2, &looks.beats[&2], looks.contact), None);
+        assert_eq!(looks.serving.fault(2, &looks.beats[&2], looks.contact, Duration::ZERO), None);
     }
 
     #[test]

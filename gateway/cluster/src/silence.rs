@@ -6,6 +6,7 @@ use std::collections::BTreeMap;
 use std::time::Duration;
 
 use crate::cut::{Cut, Unheard};
+use crate::etcd::LONGEST;
 use crate::records::{Beat, DISK_HANGS};
 use crate::roster::Roster;
 use crate::serving::{self, Fault, Serving};
@@ -20,8 +21,27 @@ pub const FRESH: Duration = Duration::from_secs(1);
 /// The time of silence of a server that has never beaten, and of one that others still hear.
 pub const PATIENCE: Duration = Duration::from_secs(10);
 
-/// Without a read for so long there was no contact, and the time doesn't count.
+/// Without a read for so long, and the slowest round trip, there was no contact, and the time doesn't count.
 const BREAK: Duration = Duration::from_secs(1);
+
+/// A round trip of etcd that takes no longer changes nothing.
+const USUAL: Duration = Duration::from_millis(250);
+
+/// What is fresh is so for as many times longer as round trips take longer than usual. A beat may be a round trip behind the one
+/// before, as may what a read shows of it, and the next read comes a round trip and half a second later.
+const FRESH_BY: u32 = 3;
+
+/// The same of what is silent. It grows by more, by a beat's period and what a read may show of it: where all beats stop none is
+/// fresh before one is silent.
+const SILENT_BY: u32 = 5;
+
+/// A read of all beats, with their revisions. What it shows may be as old as when it began.
+pub struct Look {
+    pub beats: Vec<(u32, i64, Beat)>,
+    pub began: Duration,
+    /// How long whoever looks has waited for etcd lately, this read too.
+    pub slowest: Duration,
+}
 
 #[derive(Clone, Debug)]
 struct Seen {
@@ -40,6 +60,8 @@ pub struct Silence {
     contact: Duration,
     /// When the last read began.
     last: Option<Duration>,
+    /// By how much the slowest round trip lately was longer than is usual, here or at a server of the chain.
+    excess: Duration,
     seen: BTreeMap<u32, Seen>,
     /// Servers that have never beaten: since when they are looked for, by the time of contact.
     missing: BTreeMap<u32, Duration>,
@@ -48,14 +70,17 @@ pub struct Silence {
 }
 
 impl Silence {
-    /// Notes a read of all beats, with their revisions, that began at this time. What it shows may be as old as that.
-    pub fn look(&mut self, beats: Vec<(u32, i64, Beat)>, roster: &Roster, began: Duration) {
+    /// Notes a read of all beats.
+    pub fn look(&mut self, look: Look, roster: &Roster) {
+        let Look { beats, began, slowest } = look;
         let gap = self.last.map_or(Duration::ZERO, |last| began.saturating_sub(last));
-        let was_in_contact = gap <= BREAK;
+        // The read before may have taken that long.
+        let was_in_contact = gap <= BREAK + slowest.min(LONGEST);
         if was_in_contact {
             self.contact += gap;
         }
         self.last = Some(began);
+        self.excess = excess(slowest, &beats, roster);
         let was_any_fresh = roster.members.iter().any(|member| self.is_fresh(*member, began));
         self.seen.retain(|server, _| beats.iter().any(|(one, _, _)| one == server));
         for (server, revision, beat) in beats {
@@ -104,7 +129,7 @@ impl Silence {
 
     /// Servers that need each other, beat, and don't hear each other, with the end first that is to be given up.
     pub fn cut_off(&self, roster: &Roster, now: Duration) -> Vec<(Cut, [u32; 2])> {
-        let cuts = self.unheard.cuts(roster, self.contact);
+        let cuts = self.unheard.cuts(roster, self.settled());
         cuts.into_iter().map(|cut| (cut, cut.ends(roster, |one, other| self.hears(one, other, roster, now)))).collect()
     }
 
@@ -116,7 +141,8 @@ impl Silence {
     /// The head, where it beats and hasn't served for long, and why.
     pub fn unserving(&self, roster: &Roster, now: Duration) -> Option<(u32, Fault)> {
         let head = *roster.members.first()?;
-        Some((head, self.serving.fault(head, self.said(head, roster, now)?, self.contact)?))
+        let said = self.said(head, roster, now)?;
+        Some((head, self.serving.fault(head, said, self.contact, self.grace())?))
     }
 
     /// The same for who looks for a moment alone: the head doesn't serve now.
@@ -126,7 +152,7 @@ impl Silence {
 
     /// Whether the gateway of a member has stood ready for long.
     pub fn is_ready(&self, member: u32) -> bool {
-        self.serving.is_ready(member, self.contact)
+        self.serving.is_ready(member, self.settled())
     }
 
     /// Whether the gateway of a server that is fresh would serve in the place of a head with that fault.
@@ -147,16 +173,26 @@ impl Silence {
 
     pub fn is_fresh(&self, server: u32, now: Duration) -> bool {
         let fresh = self.seen.get(&server).and_then(|seen| seen.fresh);
-        fresh.is_some_and(|fresh| now.saturating_sub(fresh) <= FRESH)
+        fresh.is_some_and(|fresh| now.saturating_sub(fresh) <= FRESH + FRESH_BY * self.excess)
+    }
+
+    /// By how much everything takes longer that is seen by beats.
+    fn grace(&self) -> Duration {
+        SILENT_BY * self.excess
+    }
+
+    /// What was so by then, by the time of contact, was so for as long as is usual.
+    fn settled(&self) -> Duration {
+        self.contact.saturating_sub(self.grace())
     }
 
     pub fn is_silent(&self, server: u32, roster: &Roster, now: Duration) -> bool {
         let Some(seen) = self.seen.get(&server) else {
             let since = self.missing.get(&server).copied().unwrap_or(self.contact);
-            return self.contact.saturating_sub(since) > PATIENCE;
+            return self.settled().saturating_sub(since) > PATIENCE;
         };
         let patience = if self.is_only_cut_off(server, seen, roster, now) { PATIENCE } else { SILENT };
-        self.contact.saturating_sub(seen.changed) > patience
+        self.settled().saturating_sub(seen.changed) > patience
     }
 
     /// Another member that beats hears it, and no message of the master waits for it: it only doesn't reach etcd.
@@ -183,6 +219,22 @@ impl Silence {
     }
 }
 
+/// For how long of contact with etcd a beat may stay as it is, where the slowest round trip takes this.
+pub fn patience(slowest: Duration) -> Duration {
+    SILENT + SILENT_BY * beyond_usual(slowest)
+}
+
+fn beyond_usual(slowest: Duration) -> Duration {
+    slowest.min(LONGEST).saturating_sub(USUAL)
+}
+
+/// By how much the slowest round trip is longer than is usual: the candidate's own, or what a server of the chain says of its own.
+fn excess(own: Duration, beats: &[(u32, i64, Beat)], roster: &Roster) -> Duration {
+    let of_chain = beats.iter().filter(|(server, ..)| roster.line_of_servers().any(|one| one == *server));
+    let said = of_chain.map(|(_, _, beat)| beat.slowest).max().unwrap_or(0);
+    beyond_usual(own.max(Duration::from_millis(said)))
+}
+
 #[cfg(test)]
 mod tests {
     use super::*;
@@ -194,6 +246,7 @@ mod tests {
         roster: Roster,
         beats: BTreeMap<u32, (i64, Beat)>,
         now: Duration,
+        slowest: Duration,
     }
 
     const HALF: Duration = Duration::from_millis(500);
@@ -201,7 +254,8 @@ mod tests {
     impl Looks {
         fn new() -> Looks {
             let roster = Roster::of_first_chain(3);
-            Looks { silence: Silence::default(), roster, beats: BTreeMap::new(), now: Duration::ZERO }
+            let (silence, beats, now, slowest) = Default::default();
+            Looks { silence, roster, beats, now, slowest }
         }
 
         fn beat(&mut self, servers: &[u32]) {
@@ -216,7 +270,8 @@ mod tests {
                 self.beat(servers);
                 self.now += HALF;
                 let beats = self.beats.iter().map(|(server, (revision, beat))| (*server, *revision, beat.clone()));
-                self.silence.look(beats.collect(), &self.roster, self.now);
+                let look = Look { beats: beats.collect(), began: self.now, slowest: self.slowest };
+                self.silence.look(look, &self.roster);
             }
         }
 
@@ -307,5 +362,77 @@ mod tests {
         assert_eq!(looks.fresh(), [0u32; 0]);
         looks.look(1, &[1]);
         assert_eq!(looks.fresh(), [1]);
+    }
+
+    /// A candidate and nodes for all of whom a round trip takes the same time. Nodes beat each half second, or as fast as they are
+    /// answered.
+    struct Slow {
+        looks: Looks,
+        trip: Duration,
+        /// When the next beats come.
+        next: [Duration; 3],
+    }
+
+    impl Slow {
+        fn new(milliseconds: u64) -> Slow {
+            let trip = Duration::from_millis(milliseconds);
+            let next = [0, 1, 2].map(|server| trip.max(HALF) * server / 3);
+            Slow { looks: Looks { slowest: trip, ..Looks::new() }, trip, next }
+        }
+
+        /// One read of the candidate. By turns it shows what is there when it begins and when it ends, which is the worst.
+        fn read(&mut self, round: u32, is_lost: impl Fn(u32) -> bool) {
+            let began = self.looks.now + HALF;
+            let shown = if round % 2 == 0 { began } else { began + self.trip };
+            for (server, next) in (1..=3).zip(&mut self.next).filter(|(_, next)| **next <= shown) {
+                while *next <= shown {
+                    *next += self.trip.max(HALF);
+                }
+                self.looks.beat(if is_lost(server) { &[] } else { std::slice::from_ref(&server) });
+            }
+            self.looks.look(1, &[]);
+            self.looks.now = began + self.trip;
+        }
+    }
+
+    #[test]
+    fn where_round_trips_are_slow_nobody_is_wrongly_silent() {
+        for milliseconds in [5, 200, 400, 460, 1000, 2000, 3000] {
+            let mut slow = Slow::new(milliseconds);
+            for round in 0..100 {
+                slow.read(round, |_| false);
+                assert_eq!(slow.looks.silent(), [0u32; 0], "{milliseconds} ms, round {round}");
+            }
+        }
+    }
+
+    #[test]
+    fn where_round_trips_are_slow_a_loss_is_noticed_within_half_a_minute() {
+        for milliseconds in [5, 200, 400, 460, 1000, 2000, 3000] {
+            let mut slow = Slow::new(milliseconds);
+            (0..40).for_each(|round| slow.read(round, |_| false));
+            let begun = slow.looks.now;
+            let is_noticed = |round| {
+                slow.read(round, |server| server == 2);
+                slow.looks.silent() == [2] && !slow.looks.fresh().is_empty()
+            };
+            assert!((40..100).any(is_noticed), "{milliseconds} ms");
+            assert!(slow.looks.now - begun < Duration::from_secs(30), "{milliseconds} ms");
+        }
+    }
+
+    #[test]
+    fn what_a_server_says_of_its_own_round_trips_counts_too() {
+        let mut looks = Looks::new();
+        looks.look(4, &[1, 2, 3]);
+        looks.beats.get_mut(&3).unwrap().1.slowest = 1400;
+        looks.look(15, &[1, 3]);
+        assert_eq!((patience(Duration::from_millis(1400)), looks.silent()), (Duration::from_millis(7750), vec![]));
+        looks.look(1, &[1, 3]);
+        assert_eq!(looks.silent(), [2]);
+        // More than an answer is waited for counts for no more.
+        looks.beats.get_mut(&3).unwrap().1.slowest = 1_000_000;
+        looks.look(1, &[1, 3]);
+        assert_eq!(looks.silence.grace(), Duration::from_millis(13750));
     }
 }

@@ -15,7 +15,7 @@ use crate::records::{
     self, last_number, Beat, Chain, Cluster, Disk, Failing, GatewayPhase, JournalKind, Line, Readiness, Registration,
 };
 use crate::roster::Roster;
-use crate::silence::Silence;
+use crate::silence::{self, Silence};
 
 /// Beats are looked at for so long.
 const LOOK: Duration = Duration::from_millis(1200);
@@ -89,19 +89,16 @@ struct Look {
 pub async fn look(cluster: &Cluster) -> Result<Status> {
     let begun = Instant::now();
     let mut silence = Silence::default();
-    let first = read(cluster).await?;
-    silence.look(beats_of(&first), &roster(cluster, &first.chain), begun.elapsed());
+    let first = read_at(cluster, begun, &mut silence).await?;
     sleep(LOOK / 2).await;
-    let second = read(cluster).await?;
-    silence.look(beats_of(&second), &roster(cluster, &second.chain), begun.elapsed());
+    read_at(cluster, begun, &mut silence).await?;
     sleep(LOOK / 2).await;
-    let last = read(cluster).await?;
+    let last = read_at(cluster, begun, &mut silence).await?;
     let beating = |server: &u32| {
         let revision = |look: &Look| look.beats.get(server).map(|(revision, _)| *revision);
         revision(&last).is_some() && revision(&last) != revision(&first)
     };
     let roster = roster(cluster, &last.chain);
-    silence.look(beats_of(&last), &roster, begun.elapsed());
     let view = View {
         keys: &cluster.keys,
         roster: &roster,
@@ -205,6 +202,15 @@ fn roster(cluster: &Cluster, chain: &Chain) -> Roster {
 
 fn beats_of(look: &Look) -> Vec<(u32, i64, Beat)> {
     look.beats.iter().map(|(server, (revision, beat))| (*server, *revision, beat.clone())).collect()
+}
+
+/// Reads, and notes who beats.
+async fn read_at(cluster: &Cluster, begun: Instant, silence: &mut Silence) -> Result<Look> {
+    let began = begun.elapsed();
+    let look = read(cluster).await?;
+    let beats = silence::Look { beats: beats_of(&look), began, slowest: cluster.etcd.slowest() };
+    silence.look(beats, &roster(cluster, &look.chain));
+    Ok(look)
 }
 
 async fn read(cluster: &Cluster) -> Result<Look> {

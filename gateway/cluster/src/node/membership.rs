@@ -10,7 +10,7 @@ use tokio::time::{sleep, timeout};
 
 use crate::clock::since_start;
 use crate::contact::Contact;
-use crate::etcd::{Entry, Guard, Operation};
+use crate::etcd::{Entry, Guard, Operation, SOON};
 use crate::records::{self, last_number, Beat, Chain, Piece, Registration, Replaced};
 use crate::{lock, memory};
 
@@ -37,7 +37,14 @@ struct Membership {
     joins: bool,
     /// The number of the last beat.
     beat: u64,
+    /// When it was written, whatever came of that.
     beaten: Option<Instant>,
+    /// The last look failed, so the next one writes nothing: where etcd takes nothing, or takes long for it, its log is read still.
+    only_reads: bool,
+    /// Whether this look writes something.
+    writes: bool,
+    /// What was written last has come to nothing, for all that is known.
+    is_unwritten: bool,
     /// Whether the last look asked the master to do without this server.
     is_condemned: bool,
     /// The number of the next message of the master.
@@ -58,6 +65,9 @@ pub async fn keep(node: Arc<Shared>, joins: bool) -> Replaced {
         joins,
         beat: 0,
         beaten: None,
+        only_reads: false,
+        writes: false,
+        is_unwritten: false,
         is_condemned: false,
         next_order: 1,
         line: 0,
@@ -69,9 +79,7 @@ pub async fn keep(node: Arc<Shared>, joins: bool) -> Replaced {
         match membership.look().await {
             Ok(is_more) => {
                 membership.node.suspension.looked(begun, true);
-                if membership.contact.regain() {
-                    tracing::info!("in contact with etcd again");
-                }
+                membership.went_well();
                 if !is_more {
                     let rest = membership.beaten.map_or(BEAT, |beaten| BEAT.saturating_sub(beaten.elapsed()));
                     let _ = timeout(rest.max(SHORTEST), look.notified()).await;
@@ -84,10 +92,7 @@ pub async fn keep(node: Arc<Shared>, joins: bool) -> Replaced {
                     Err(error) => error,
                 };
                 membership.node.suspension.looked(begun, false);
-                membership.beaten = None;
-                if membership.contact.lose(format!("{error:#}")) {
-                    tracing::warn!("no contact with etcd, and all goes on as it is: {error:#}");
-                }
+                membership.failed(&error);
                 sleep(Duration::from_millis(100)).await;
             }
         }
@@ -95,6 +100,22 @@ pub async fn keep(node: Arc<Shared>, joins: bool) -> Replaced {
 }
 
 impl Membership {
+    fn went_well(&mut self) {
+        self.only_reads = false;
+        self.is_unwritten &= !self.writes;
+        if !self.is_unwritten && self.contact.regain() {
+            tracing::info!("in contact with etcd again");
+        }
+    }
+
+    fn failed(&mut self, error: &anyhow::Error) {
+        self.only_reads = true;
+        self.is_unwritten |= self.writes;
+        if self.contact.lose(format!("{error:#}")) {
+            tracing::warn!("no contact with etcd, and all goes on as it is: {error:#}");
+        }
+    }
+
     /// One transaction. Says whether there is more to do at once.
     async fn look(&mut self) -> Result<bool> {
         let node = self.node.clone();
@@ -110,7 +131,8 @@ impl Membership {
         // The head's gateway refuses by what all others say.
         let is_head = lock(&node.report).standing.is_head;
         reads.extend(is_head.then(|| Operation::all(&keys.beats())));
-        let (letters, writes) = self.writes();
+        let (letters, writes) = if self.only_reads { Default::default() } else { self.writes() };
+        self.writes = !writes.is_empty();
         let guards = [node.cluster.guard(), Guard::IsAbsent(keys.detected(node.id))];
         let all = [reads.clone(), writes].concat();
         let outcome = node.cluster.etcd.transact(&guards, &all, &reads).await?;
@@ -188,6 +210,7 @@ impl Membership {
     fn next_beat(&self, report: &Report) -> Beat {
         let (standing, gateway) = (&report.standing, &report.gateway);
         let head = self.chain.as_ref().and_then(|chain| chain.members.first());
+        let slowest = Some(self.node.cluster.etcd.slowest()).filter(|slowest| *slowest > SOON).unwrap_or_default();
         Beat {
             number: self.beat,
             joins: self.joins,
@@ -208,6 +231,7 @@ impl Membership {
             reading: gateway.reading,
             condemned: report.condemned.map(Into::into),
             disk: *lock(&self.node.disk),
+            slowest: slowest.as_millis() as u64,
         }
     }
 
