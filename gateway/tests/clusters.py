@@ -62,9 +62,9 @@ class Etcd:
     """One etcd, of one member or of three."""
 
     def __init__(self, room: Path, members: int = 1, certificates: Certificates | None = None,
-                 network: Network | Loopback = Loopback(), machines: list[int] | None = None) -> None:
-        """`machines`: on which one each member is, where there are some."""
-        self.room, self.certificates, self.network = room, certificates, network
+                 network: Network | Loopback = Loopback(), machines: list[int] | None = None, words: tuple[str, ...] = ()) -> None:
+        """`machines`: on which one each member is, where there are some. `words` are more that each gets."""
+        self.room, self.certificates, self.network, self.words = room, certificates, network, words
         self.machines = machines or list(range(1, members + 1))
         self.answered_last = 0
         # What tests show it.
@@ -91,6 +91,7 @@ class Etcd:
                  "--initial-cluster", cluster, "--logger", "zap", "--log-level", "error"]
         machine = self.machines[place]
         words += self.certificates.words_of_etcd(self.network.address(machine)) if self.certificates else []
+        words += self.words
         with open(self.room / f"etcd{place}.log", "ab") as log:
             return subprocess.Popen(self.network.at(machine, *words), stdin=subprocess.DEVNULL, stdout=log, stderr=log)
 
@@ -198,10 +199,10 @@ def _text(digits: str) -> str:
 
 
 class Proxy:
-    """Stands between one node and etcd, and can be cut, or take its time for each way."""
+    """Stands between one node and etcd, and can be cut, take its time for each way, or hold back requests that have some bytes."""
 
     def __init__(self, url: str) -> None:
-        self.delay = 0.0
+        self.delay, self.held = 0.0, b""
         self.port = int(url.rsplit(":", 1)[1])
         self.listener = socket.create_server(("127.0.0.1", 0))
         self.url = f"{url.split(':')[0]}://127.0.0.1:{self.listener.getsockname()[1]}"
@@ -229,7 +230,8 @@ class Proxy:
         try:
             while data := a.recv(1 << 16):
                 time.sleep(self.delay)
-                b.sendall(data)
+                if not self.held or self.held not in data:
+                    b.sendall(data)
         except OSError:
             pass
         for one in (a, b):
@@ -418,18 +420,19 @@ class Cluster:
                  programs: Callable[[str], str] = lambda name: program(), breakable: bool = False,
                  gateways: bool = False, certificates: Certificates | None = None, clocks: bool = False,
                  words: Callable[[int], list[str]] = lambda number: [], traced: bool = True,
-                 network: Network | Loopback = Loopback(), layout: Layout = Layout(), preloaded: list[Path] | None = None) -> None:
-        """`words` are those that the node that is started as that one gets, beside the usual ones. With `clocks` the wall clocks of
-        nodes can be stepped. `traced`: nodes write down all that servers tell, which takes time. `preloaded` are libraries that
-        nodes load ahead of the system's."""
+                 network: Network | Loopback = Loopback(), layout: Layout = Layout(), preloaded: list[Path] | None = None,
+                 of_etcd: tuple[str, ...] = (), of_masters: tuple[str, ...] = ()) -> None:
+        """`words` are those that the node that is started as that one gets, beside the usual ones, `of_etcd` and `of_masters` those
+        that members of etcd and candidates get. With `clocks` the wall clocks of nodes can be stepped. `traced`: nodes write down
+        all that servers tell, which takes time. `preloaded` are libraries that nodes load ahead of the system's."""
         self.traced, self.network, self.layout, self.preloaded = traced, network, layout, preloaded or []
         # Machines on which no node is started now, each as often as there is a reason.
         self.unfit: list[int] = []
         self.between: list[Proxy] = []
         self.words = words
         self.room, self.size, self.programs, self.gateways = room, size, programs, gateways
-        self.certificates, self.clocks = certificates, clocks
-        self.etcd = Etcd(room, members, certificates, network, [layout.of_etcd(place) for place in range(members)])
+        self.certificates, self.clocks, self.of_masters = certificates, clocks, of_masters
+        self.etcd = Etcd(room, members, certificates, network, [layout.of_etcd(place) for place in range(members)], of_etcd)
         self.nodes: list[Node] = []
         self.masters: list[subprocess.Popen] = []
         self.last: dict[str, Any] = {}
@@ -528,10 +531,11 @@ class Cluster:
         self.etcd.write(key, json.dumps(registration, separators=(",", ":")))
         return proxy
 
-    def start_master(self, place: int | None = None) -> None:
-        """One more, or the one of that place again."""
+    def start_master(self, place: int | None = None, urls: list[str] | None = None) -> None:
+        """One more, or the one of that place again. `urls` are those of etcd, where it is to reach it by others."""
         place = len(self.masters) if place is None else place
-        process, _ = self.start(self.layout.of_master(place), f"master{place + 1}", "master", *self.which("master"))
+        which = [",".join(urls) if urls and word == ",".join(self.etcd.urls) else word for word in self.which("master")]
+        process, _ = self.start(self.layout.of_master(place), f"master{place + 1}", "master", *which, *self.of_masters)
         self.masters[place : place + 1] = [process]
 
     def node(self, server: int) -> Node:

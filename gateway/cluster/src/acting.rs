@@ -10,6 +10,7 @@ use tokio::sync::{watch, Notify};
 use tokio::time::{sleep, timeout};
 
 use crate::clock::since_start;
+use crate::condition::{self, Condition};
 use crate::contact::Contact;
 use crate::etcd::Operation;
 use crate::identity::{Fingerprint, Identity};
@@ -46,6 +47,7 @@ pub struct Follower {
     reach: Arc<Reach>,
     /// Why there is no contact with etcd, if there is none.
     away: Arc<Mutex<Option<String>>>,
+    condition: Arc<Mutex<Condition>>,
 }
 
 /// What the task that follows tells.
@@ -62,8 +64,9 @@ impl Follower {
         let ((tell_acting, acting), (tell_end, ended)) = (watch::channel(None), watch::channel(None));
         let look = Arc::new(Notify::new());
         let suspension = Arc::new(Suspension::new(look.clone()));
-        let (reach, away) = Default::default();
-        let follower = Follower { acting, look, suspension, ended, reach, away };
+        let (reach, away, condition): (_, _, Arc<Mutex<Condition>>) = Default::default();
+        tokio::spawn(condition::watch(cluster.etcd.clone(), condition.clone()));
+        let follower = Follower { acting, look, suspension, ended, reach, away, condition };
         let told = Told { acting: tell_acting, ended: tell_end };
         tokio::spawn(cluster.etcd.clone().watch(cluster.keys.chain(), follower.look.clone()));
         tokio::spawn(follower.suspension.clone().keep_noting());
@@ -74,8 +77,8 @@ impl Follower {
     /// One that is told who acts by a test.
     pub fn for_tests() -> (watch::Sender<Option<Acting>>, Follower) {
         let ((sender, acting), (_, ended)) = (watch::channel(None), watch::channel(None));
-        let (suspension, (look, reach, away)) = (Arc::new(Suspension::never()), Default::default());
-        (sender, Follower { acting, look, suspension, ended, reach, away })
+        let (suspension, (look, reach, away, condition)) = (Arc::new(Suspension::never()), Default::default());
+        (sender, Follower { acting, look, suspension, ended, reach, away, condition })
     }
 
     /// The gateway that acts; nothing before it is known, or where the head has none.
@@ -97,6 +100,11 @@ impl Follower {
     /// Why etcd can't be looked at, where it can't.
     pub fn why_away(&self) -> Option<String> {
         lock(&self.away).clone()
+    }
+
+    /// How etcd is, as it was found some seconds ago.
+    pub fn condition(&self) -> Condition {
+        lock(&self.condition).clone()
     }
 
     /// The gateway of that server was heard: all servers are told that it is reached.

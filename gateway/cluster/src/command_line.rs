@@ -9,6 +9,7 @@ use clap::{ArgGroup, Args, Subcommand};
 
 use crate::addresses::Place;
 use crate::certificates;
+use crate::compaction::{self, When};
 use crate::identity::{IdentityFiles, Role};
 use crate::memory::{usual_bound, Size};
 use crate::node::{self, gateway, keeping, Beginning, End, Limits};
@@ -93,6 +94,15 @@ pub struct Node {
 pub struct Master {
     #[command(flatten)]
     which: Which,
+    /// Have etcd compacted by others: this candidate never has it forget what was overwritten
+    #[arg(long)]
+    no_compaction: bool,
+    /// Compact etcd also where others have keys there
+    #[arg(long, conflicts_with = "no_compaction")]
+    compaction: bool,
+    /// For how many seconds what was overwritten is kept, for tests
+    #[arg(long, value_name = "SECONDS", default_value = "3600", hide = true)]
+    compaction_kept: u64,
     /// The program cq [default: cq of the path]
     #[arg(long, value_name = "PROGRAM", env = "HOBBYCHAIR_CQ")]
     pub cq: Option<String>,
@@ -213,7 +223,13 @@ pub fn run_node(node: Node, program: String) -> Result<()> {
 
 /// Runs a candidate for the master, with the program cq.
 pub fn run_master(master: &Master, program: &str) -> Result<()> {
-    runtime()?.block_on(async { master::run(master.which.find(&[Role::Master]).await?, program).await })
+    let when = match (master.no_compaction, master.compaction) {
+        (true, _) => When::Never,
+        (false, true) => When::Always,
+        (false, false) => When::Alone,
+    };
+    let compaction = compaction::Settings { when, kept: Duration::from_secs(master.compaction_kept) };
+    runtime()?.block_on(async { master::run(master.which.find(&[Role::Master]).await?, program, compaction).await })
 }
 
 /// Does what is asked about a cluster. The program is there where one is needed.
@@ -275,6 +291,10 @@ async fn create(which: &Which, nodes: u32) -> Result<()> {
     let cluster = Cluster::create(&which.cluster, &which.etcd, identity, nodes).await?;
     say(&format!("cluster {} is there, of incarnation {}", cluster.name, cluster.settings.incarnation));
     say(&format!("its servers 1 to {nodes} begin by: hobbychair node --first N"));
+    // The cluster is there, whatever comes of this.
+    if let Ok(others) = compaction::count_others(&cluster.etcd).await {
+        say(compaction::foretold(others));
+    }
     Ok(())
 }
 

@@ -3,6 +3,7 @@
 //! A member that says nothing for a short time isn't waited for alone: the next one is asked as well. A transaction whose
 //! answer is lost may have happened, and one that two members were asked for, too: what its caller reads next says so.
 
+use std::collections::BTreeSet;
 use std::net::IpAddr;
 use std::sync::atomic::{AtomicUsize, Ordering};
 use std::sync::{Arc, Mutex};
@@ -35,6 +36,9 @@ const QUIET: Duration = Duration::from_secs(5);
 /// No answer is longer.
 const LONGEST_ANSWER: usize = 64 << 20;
 
+/// What etcd says of a database that is as large as its quota.
+const FULL: &str = "database space exceeded";
+
 /// Why there is no answer.
 #[derive(Debug, Error)]
 pub enum EtcdError {
@@ -42,7 +46,14 @@ pub enum EtcdError {
     Unreachable(String),
     #[error("etcd refuses a request: {0}")]
     Refused(String),
+    #[error("etcd takes no writes ({FULL}): its database is as large as its quota. {REMEDY}")]
+    Full,
 }
+
+/// What to do about a database that is full.
+pub const REMEDY: &str =
+    "Compact it, shrink the database of each member, and take back the alarm: etcdctl compact REVISION, \
+                          etcdctl defrag, etcdctl alarm disarm";
 
 /// What has to be so for a transaction to happen.
 #[derive(Clone, Debug, PartialEq, Eq)]
@@ -79,6 +90,8 @@ pub struct Outcome {
     pub succeeded: bool,
     /// What each operation read, in their order.
     pub read: Vec<Vec<Entry>>,
+    /// The revision of all of etcd by then.
+    pub revision: i64,
 }
 
 /// The members of one etcd.
@@ -140,6 +153,35 @@ impl Etcd {
         outcome(&answer).ok_or_else(|| EtcdError::Refused("it is no answer".into()))
     }
 
+    /// The names of its alarms, as NOSPACE.
+    pub async fn alarms(&self) -> Result<BTreeSet<String>, EtcdError> {
+        let answer = self.call("/v3/maintenance/alarm", json!({"action": "GET"}).to_string()).await?;
+        let alarms = answer.get("alarms").and_then(Value::as_array).cloned().unwrap_or_default();
+        Ok(alarms.iter().filter_map(|alarm| Some(alarm.get("alarm")?.as_str()?.to_string())).collect())
+    }
+
+    /// How many keys there are that don't begin with this.
+    pub async fn count_others(&self, prefix: &str) -> Result<u64, EtcdError> {
+        // Where it is the end, this key stands for that of all keys.
+        let least = "\0".to_string();
+        Ok(self.count(&least, prefix).await? + self.count(&behind(prefix), &least).await?)
+    }
+
+    async fn count(&self, from: &str, to: &str) -> Result<u64, EtcdError> {
+        let asked = json!({"key": base64::encode(from), "range_end": base64::encode(to), "count_only": true});
+        let answer = self.call("/v3/kv/range", asked.to_string()).await?;
+        // Where there are none, it isn't said.
+        Ok(answer.get("count").and_then(Value::as_str).and_then(|count| count.parse().ok()).unwrap_or(0))
+    }
+
+    /// Has all of etcd forget what was overwritten or deleted before that revision. What has been forgotten already is no error.
+    pub async fn compact(&self, revision: i64) -> Result<(), EtcdError> {
+        match self.call("/v3/kv/compaction", json!({"revision": revision.to_string()}).to_string()).await {
+            Err(EtcdError::Refused(said)) if said.contains("has been compacted") => Ok(()),
+            answer => answer.map(drop),
+        }
+    }
+
     /// What the first member says that answers. One after the other is asked, and whoever was asked is heard until the end. Behind
     /// a cut a new request goes through earlier than TCP repeats an old one.
     async fn call(&self, path: &'static str, body: String) -> Result<Value, EtcdError> {
@@ -195,7 +237,7 @@ impl Etcd {
         }
         if !answer.status().is_success() {
             let said = String::from_utf8_lossy(&bytes[..bytes.len().min(300)]).trim().to_string();
-            return Err(EtcdError::Refused(said));
+            return Err(if said.contains(FULL) { EtcdError::Full } else { EtcdError::Refused(said) });
         }
         serde_json::from_slice(&bytes).map_err(|error| EtcdError::Refused(error.to_string()))
     }
@@ -328,11 +370,12 @@ impl Operation {
 
 /// What the gateway of etcd tells: a field that is false, zero or empty isn't there, and numbers are texts.
 fn outcome(answer: &Value) -> Option<Outcome> {
-    answer.get("header")?;
+    let revision = answer.get("header")?.get("revision").and_then(Value::as_str);
+    let revision = revision.and_then(|revision| revision.parse().ok()).unwrap_or(0);
     let succeeded = answer.get("succeeded").and_then(Value::as_bool).unwrap_or(false);
     let responses = answer.get("responses").and_then(Value::as_array).cloned().unwrap_or_default();
     let read = responses.iter().map(|one| entries(&one["response_range"]["kvs"])).collect::<Option<_>>()?;
-    Some(Outcome { succeeded, read })
+    Some(Outcome { succeeded, read, revision })
 }
 
 fn entries(found: &Value) -> Option<Vec<Entry>> {
@@ -363,7 +406,7 @@ mod tests {
             {"response_range": {}},
         ]});
         let outcome = outcome(&answer).unwrap();
-        assert!(!outcome.succeeded);
+        assert!(!outcome.succeeded && outcome.revision == 7);
         let read = Entry { key: "a".into(), value: "b".into(), revision: 5 };
         assert_eq!(outcome.read, [vec![], vec![read], vec![]]);
     }
@@ -436,6 +479,30 @@ mod tests {
         assert!(said.starts_with("no member of etcd answers: http://") && said.ends_with("is silent"), "{said}");
         assert!(took >= LONGEST + SOON && etcd.slowest() == Duration::ZERO, "{took:?}");
         assert_eq!(etcd.at.load(Ordering::Relaxed), 1);
+    }
+
+    #[tokio::test]
+    async fn of_a_full_etcd_is_said_what_to_do() {
+        let full = r#"{"error":"etcdserver: mvcc: database space exceeded","code":8}"#;
+        let (outcome, ..) = asked(&[member(Some((Duration::ZERO, 429, full))).await]).await;
+        let said = outcome.unwrap_err().to_string();
+        assert!(said.contains("database space exceeded") && said.ends_with("etcdctl alarm disarm"), "{said}");
+    }
+
+    #[tokio::test]
+    async fn alarms_and_keys_are_read_and_what_was_forgotten_already_is_no_error() {
+        let etcd = |status, said| async move {
+            Etcd::new(&[member(Some((Duration::ZERO, status, said))).await], None).unwrap()
+        };
+        let alarms =
+            r#"{"header":{},"alarms":[{"memberID":"1","alarm":"NOSPACE"},{"memberID":"2","alarm":"NOSPACE"}]}"#;
+        assert_eq!(etcd(200, alarms).await.alarms().await.unwrap(), ["NOSPACE".to_string()].into());
+        let none = etcd(200, r#"{"header":{}}"#).await;
+        assert!(none.alarms().await.unwrap().is_empty() && none.count_others("a/").await.unwrap() == 0);
+        assert_eq!(etcd(200, r#"{"header":{},"count":"3"}"#).await.count_others("a/").await.unwrap(), 6);
+        let compacted = r#"{"error":"etcdserver: mvcc: required revision has been compacted","code":11}"#;
+        assert!(etcd(400, compacted).await.compact(7).await.is_ok());
+        assert!(etcd(400, "etcdserver: no way").await.compact(7).await.is_err());
     }
 
     #[tokio::test]

@@ -13,6 +13,8 @@ use tokio::time::{sleep, timeout};
 
 use crate::child::{Child, Told};
 use crate::commands::{Command, Party, Place, Response, NO_MEMORY};
+use crate::compaction;
+use crate::condition;
 use crate::contact::Contact;
 use crate::decision::{Decision, Letter, View};
 use crate::etcd::{Entry, EtcdError, Guard, Operation};
@@ -184,9 +186,11 @@ pub struct Master {
 }
 
 /// Runs a candidate until its cluster is another one, or it fails.
-pub async fn run(cluster: Cluster, program: &str) -> Result<()> {
+pub async fn run(cluster: Cluster, program: &str, compaction: compaction::Settings) -> Result<()> {
     let cluster = cluster.for_long();
     let look = Arc::new(Notify::new());
+    tokio::spawn(condition::watch(cluster.etcd.clone(), Arc::default()));
+    tokio::spawn(compaction::keep(cluster.clone(), compaction));
     tokio::spawn(cluster.etcd.clone().watch(cluster.keys.master(), look.clone()));
     let servers = cluster.settings.servers;
     let mut master = Master {

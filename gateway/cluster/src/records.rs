@@ -14,6 +14,9 @@ use crate::identity::{Fingerprint, Identity};
 /// The version of all that is here.
 pub const VERSION: u32 = 1;
 
+/// With what the keys of all clusters begin.
+pub const OF_ALL: &str = "hobbychair/";
+
 /// No name of a cluster is longer.
 const LONGEST_NAME: usize = 64;
 
@@ -306,6 +309,11 @@ impl Keys {
     #[cfg(test)]
     pub fn for_tests() -> Keys {
         Keys::new("tested", "0")
+    }
+
+    /// Up to which revision etcd is compacted next, and since when that is known.
+    pub fn compaction(&self) -> String {
+        format!("{}/compaction", self.root)
     }
 
     /// The next number of a server.

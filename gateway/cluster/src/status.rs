@@ -8,6 +8,7 @@ use anyhow::{Context, Result};
 use serde::Serialize;
 use tokio::time::sleep;
 
+use crate::condition::Condition;
 use crate::decision::View;
 use crate::etcd::{Entry, Operation};
 use crate::memory::Size;
@@ -74,6 +75,8 @@ pub struct Status {
     detected: Vec<u32>,
     /// Why the chain waits, if it does.
     waits: Option<String>,
+    /// How etcd is, as this process sees it, and how long nodes waited for it.
+    etcd: Condition,
 }
 
 /// What is read at once.
@@ -116,7 +119,11 @@ pub async fn look(cluster: &Cluster) -> Result<Status> {
         _ => format!("server {server} doesn't beat or is condemned, and {why}"),
     });
     let waits = waits.or_else(|| why_unserved(&view));
+    let said = last.beats.iter().filter(|(server, _)| beating(server)).map(|(_, (_, beat))| beat.slowest);
+    let slowest = said.max().unwrap_or(0);
     Ok(Status {
+        // What it says of alarms may be kept from whoever looks.
+        etcd: Condition::of(&cluster.etcd).await.unwrap_or_default().or_slower(slowest),
         cluster: cluster.name.clone(),
         incarnation: cluster.settings.incarnation.clone(),
         line: last.chain.line,
@@ -298,6 +305,9 @@ impl Status {
         }
         if let Some(why) = &self.waits {
             let _ = writeln!(out, "the chain waits: {why}");
+        }
+        for trouble in self.etcd.troubles() {
+            let _ = writeln!(out, "{trouble}");
         }
         out
     }

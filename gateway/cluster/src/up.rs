@@ -93,7 +93,9 @@ pub async fn up(settings: &Settings) -> Result<()> {
         processes.push(begin(node, folder, &name)?);
     }
     for number in 1..=2 {
-        processes.push(begin(command(&["master"], "master"), folder, &format!("master-{number}"))?);
+        // This etcd compacts itself.
+        let words = ["master", "--no-compaction"];
+        processes.push(begin(command(&words, "master"), folder, &format!("master-{number}"))?);
     }
     let front = free_port()?;
     let words = ["serve", "--host", "127.0.0.1", "--port", &front.to_string()];

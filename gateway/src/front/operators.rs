@@ -5,9 +5,12 @@ use std::time::Duration;
 
 use bytes::Bytes;
 use hobbychair_cluster::acting::Follower;
+use hobbychair_cluster::condition::Condition;
 use hyper::header::{HeaderValue, CONTENT_TYPE};
 use hyper::{Body, Method, Request, Response, StatusCode};
-use prometheus::{Encoder, Histogram, HistogramOpts, IntCounter, IntCounterVec, IntGauge, Opts, Registry, TextEncoder};
+use prometheus::{
+    Encoder, Gauge, Histogram, HistogramOpts, IntCounter, IntCounterVec, IntGauge, Opts, Registry, TextEncoder,
+};
 use tokio::time::Instant;
 
 use super::contact::Contact;
@@ -22,6 +25,8 @@ pub struct Figures {
     again: IntCounter,
     open: IntGauge,
     acting: IntGauge,
+    alarms: IntGauge,
+    slowest: Gauge,
 }
 
 impl Figures {
@@ -43,6 +48,11 @@ impl Figures {
                 "hobbychair_front_acting_server",
                 "The server whose gateway acts; 0 where none is known.",
             )?,
+            alarms: IntGauge::new("hobbychair_front_etcd_alarms", "Kinds of alarms that etcd has, as NOSPACE.")?,
+            slowest: Gauge::new(
+                "hobbychair_front_etcd_slowest_answer_seconds",
+                "How long the front waited for etcd's slowest answer lately.",
+            )?,
             registry,
         };
         figures.registry.register(Box::new(figures.answered.clone()))?;
@@ -50,6 +60,8 @@ impl Figures {
         figures.registry.register(Box::new(figures.again.clone()))?;
         figures.registry.register(Box::new(figures.open.clone()))?;
         figures.registry.register(Box::new(figures.acting.clone()))?;
+        figures.registry.register(Box::new(figures.alarms.clone()))?;
+        figures.registry.register(Box::new(figures.slowest.clone()))?;
         Ok(figures)
     }
 
@@ -69,8 +81,10 @@ impl Figures {
         self.seconds.observe(time.as_secs_f64());
     }
 
-    fn text(&self, acting: u32) -> prometheus::Result<Vec<u8>> {
+    fn text(&self, acting: u32, etcd: &Condition) -> prometheus::Result<Vec<u8>> {
         self.acting.set(acting.into());
+        self.alarms.set(etcd.alarms.len() as i64);
+        self.slowest.set(Duration::from_millis(etcd.slowest_milliseconds).as_secs_f64());
         let mut out = Vec::new();
         TextEncoder::new().encode(&self.registry.gather(), &mut out)?;
         Ok(out)
@@ -128,7 +142,7 @@ impl Operators {
     }
 
     fn metrics(&self, acting: u32) -> Response<Bytes> {
-        match self.figures.text(acting) {
+        match self.figures.text(acting, &self.follower.condition()) {
             Ok(told) => {
                 let mut response = Response::new(Bytes::from(told));
                 let content_type = HeaderValue::from_static(Metrics::content_type());
@@ -176,6 +190,8 @@ mod tests {
             "hobbychair_front_again_total 1",
             "hobbychair_front_open_requests 1",
             "hobbychair_front_acting_server 3",
+            "hobbychair_front_etcd_alarms 0",
+            "hobbychair_front_etcd_slowest_answer_seconds 0",
         ] {
             assert!(told.lines().any(|told| told == line), "{line} in {told}");
         }
