@@ -101,8 +101,10 @@ impl KeptFile {
 
     fn words(&self) -> Vec<OsString> {
         let mut words = vec!["--journal".into(), self.path.clone().into()];
-        if let Making::OfSize(Some(size)) = self.making {
-            words.extend(["--journal-size".into(), size.to_string().into()]);
+        match self.making {
+            Making::OfSize(Some(size)) => words.extend(["--journal-size".into(), size.to_string().into()]),
+            Making::OfSize(None) => {}
+            Making::Refused => words.push("--no-create".into()),
         }
         words
     }

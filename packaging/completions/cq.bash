@@ -17,7 +17,7 @@ _cq() {
         if [ "${COMP_WORDS[COMP_CWORD - 1]}" = --journal ]; then
             COMPREPLY=($(compgen -f -- "$word"))
         else
-            COMPREPLY=($(compgen -W "--id --first --joining --load --journal --journal-size --wire --help" -- "$word"))
+            COMPREPLY=($(compgen -W "--id --first --joining --load --journal --journal-size --no-create --wire --help" -- "$word"))
         fi
         ;;
     master) COMPREPLY=($(compgen -W "--servers --wire --help" -- "$word")) ;;

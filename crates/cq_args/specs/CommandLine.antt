@@ -22,7 +22,7 @@ size_of (Convert path to) = 0
 size_of (First id size) = size
 size_of (Joining id) = 0
 size_of Loaded = 0
-size_of (KeptServer path mebibytes) = 0
+size_of (KeptServer path mebibytes no_create) = 0
 size_of (Master size) = size
 size_of (Explain size is_live) = size
 size_of (Watch size) = size
@@ -40,7 +40,7 @@ name_of (Convert path to) = codes "convert"
 name_of (First id size) = codes "server"
 name_of (Joining id) = codes "server"
 name_of Loaded = codes "server"
-name_of (KeptServer path mebibytes) = codes "server"
+name_of (KeptServer path mebibytes no_create) = codes "server"
 name_of (Master size) = codes "master"
 name_of (Explain size is_live) = codes "explain"
 name_of (Watch size) = codes "watch"
@@ -90,6 +90,13 @@ journal_size_rule = record (new_rule (codes "journal-size")) {
   long = Some (codes "journal-size");
   value_names = 1;
   parser = Some (Unsigned 64 1048576);
+}
+
+-- `--no-create`
+abbrev pub no_create_rule : Rule
+no_create_rule = record (new_rule (codes "no-create")) {
+  long = Some (codes "no-create");
+  action = Some SetTrue;
 }
 
 -- `--two-syncs`
@@ -204,9 +211,9 @@ wire_rule = record (new_rule (codes "wire")) {
 abbrev pub placed_server_app : App
 placed_server_app = with_rule (with_rule (with_rule (with_rule (new_app (codes "server")) id_rule) first_rule) joining_rule) load_rule
 
--- and `[--journal FILE] [--journal-size MIB]`
+-- and `[--journal FILE] [--journal-size MIB] [--no-create]`
 abbrev pub stored_server_app : App
-stored_server_app = with_rule (with_rule placed_server_app journal_rule) journal_size_rule
+stored_server_app = with_rule (with_rule (with_rule placed_server_app journal_rule) journal_size_rule) no_create_rule
 
 -- and `[--wire V]`
 abbrev pub server_app : App
@@ -307,7 +314,7 @@ HasServers found (Convert path to) = ⊤
 HasServers found (First id size) = ⊤
 HasServers found (Joining id) = ⊤
 HasServers found Loaded = ⊤
-HasServers found (KeptServer path mebibytes) = ⊤
+HasServers found (KeptServer path mebibytes no_create) = ⊤
 HasServers found invocation = IsSized found (size_of invocation)
 
 -- these files are named, if the command is about any
@@ -328,7 +335,7 @@ abbrev pub IsProcess : Invocation → Type 0
 IsProcess (First id size) = ⊤
 IsProcess (Joining id) = ⊤
 IsProcess Loaded = ⊤
-IsProcess (KeptServer path mebibytes) = ⊤
+IsProcess (KeptServer path mebibytes no_create) = ⊤
 IsProcess (Master size) = ⊤
 IsProcess (Explain size is_live) = ⊤
 IsProcess (Watch size) = ⊤
@@ -345,17 +352,24 @@ AsksServer rows Loaded =
     IsNumber (one_of (codes "id") rows) 1 × IsNumber (one_of (codes "first") rows) 1 × (one_of (codes "load") rows ≡ Some (codes "false") → ⊥)
 AsksServer rows _ = ⊥
 
--- So it keeps a server where no journal is named, or the only one of a first chain with a journal in that file: of 256 mebibytes if none
--- are given. Or it keeps the master of a first chain of so many servers, explains the lines of a script on so many, or of a live script, or
+-- The only server of a first chain, with a journal in that file: of 256 mebibytes if none are given, and not made if `--no-create` is.
+pub record AsksKept (rows : List Row) (path : Text) (mebibytes : ℕ) (no_create : Bool) : Type 0 where
+  pub file : first_of (codes "journal") rows ≡ Some path
+  pub id : IsNumber (one_of (codes "id") rows) 1
+  pub first : IsNumber (one_of (codes "first") rows) 1
+  pub length : IsNumber (one_of (codes "journal-size") rows) mebibytes ⊎ (mebibytes ≡ 256)
+  pub alone : one_of (codes "joining") rows ≡ Some (codes "true") → ⊥
+  pub empty : one_of (codes "load") rows ≡ Some (codes "true") → ⊥
+  pub is_told : one_of (codes "no-create") rows ≡ Some (codes "true") → no_create ≡ true
+  pub is_not_told : one_of (codes "no-create") rows ≡ Some (codes "false") → no_create ≡ false
+
+-- So it keeps a server where no journal is named, or the only one of a first chain with a journal in that file. Or it keeps the master of a first chain of so many servers, explains the lines of a script on so many, or of a live script, or
 -- watches those of a session on so many.
 abbrev pub AsksProcess : List Row → Invocation → Type 0
 AsksProcess rows (First id size) = AsksServer rows (First id size) × (first_of (codes "journal") rows ≡ None)
 AsksProcess rows (Joining id) = AsksServer rows (Joining id) × (first_of (codes "journal") rows ≡ None)
 AsksProcess rows Loaded = AsksServer rows Loaded × (first_of (codes "journal") rows ≡ None)
-AsksProcess rows (KeptServer path mebibytes) =
-    (first_of (codes "journal") rows ≡ Some path.now) × IsNumber (one_of (codes "id") rows) 1 × IsNumber (one_of (codes "first") rows) 1
-    × (IsNumber (one_of (codes "journal-size") rows) mebibytes ⊎ (mebibytes ≡ 256))
-    × (one_of (codes "joining") rows ≡ Some (codes "true") → ⊥) × (one_of (codes "load") rows ≡ Some (codes "true") → ⊥)
+AsksProcess rows (KeptServer path mebibytes no_create) = AsksKept rows path.now mebibytes no_create
 AsksProcess rows (Master size) = IsNumber (one_of (codes "servers") rows) size
 AsksProcess rows (Explain size is_live) =
     IsNumber (one_of (codes "servers") rows) size × (one_of (codes "live") rows ≡ Some (codes "true") → is_live ≡ true)
@@ -405,7 +419,7 @@ LacksJournalIn found (Convert path to) = ⊥
 LacksJournalIn found (First id size) = ⊥
 LacksJournalIn found (Joining id) = ⊥
 LacksJournalIn found Loaded = ⊥
-LacksJournalIn found (KeptServer path mebibytes) = ⊥
+LacksJournalIn found (KeptServer path mebibytes no_create) = ⊥
 LacksJournalIn found (Master size) = ⊥
 LacksJournalIn found (Explain size is_live) = ⊥
 LacksJournalIn found (Watch size) = ⊥

@@ -7,7 +7,7 @@ ghost use Rattle.clap.specs.declared.error.kind.ErrorKind.TheVariants.{OutOfMemo
 ghost use Rattle.cq_args.specs.declared.invocation.TheConstants.{ZERO_DIGIT};
 ghost use Rattle.cq_args.specs.declared.invocation.Invocation.{Invocation};
 ghost use Rattle.cq_args.specs.declared.invocation.Invocation.TheVariants as invocations;
-ghost use Rattle.cq_args.specs.CommandLine.{AsksFiles, AsksJournal, AsksProcess, AsksServer, IsAsked, IsFirstIn, IsNumber, IsOnFile, IsProcess, IsSized, LacksJournal, LacksJournalIn, ReadsTurns, asked_invocation, command_app, explain_app, explain_name, file_app, file_rule, files_app, first_rule, id_rule, is_live_rule, joining_rule, journal_app, journal_rule, journal_size_rule, live_app, load_rule, master_app, master_name, name_in, name_of, placed_server_app, process_app, program_app, server_app, server_name, stored_server_app, serving_app, session_app, session_name, size_of, size_rule, tell_store_rule, text_in, turns_rule, turns_text, two_syncs_rule, watch_name, wire_rule};
+ghost use Rattle.cq_args.specs.CommandLine.{AsksFiles, AsksJournal, AsksProcess, AsksServer, IsAsked, IsFirstIn, IsNumber, IsOnFile, IsProcess, IsSized, LacksJournal, LacksJournalIn, ReadsTurns, asked_invocation, command_app, explain_app, explain_name, file_app, file_rule, files_app, first_rule, id_rule, is_live_rule, joining_rule, journal_app, journal_rule, journal_size_rule, live_app, load_rule, master_app, master_name, name_in, name_of, no_create_rule, placed_server_app, process_app, program_app, server_app, server_name, stored_server_app, serving_app, session_app, session_name, size_of, size_rule, tell_store_rule, text_in, turns_rule, turns_text, two_syncs_rule, watch_name, wire_rule};
 
 use clap::error::ErrorKind;
 use clap::{Arg, ArgAction, ArgMatches, Command, Error, value_parser};
@@ -86,10 +86,11 @@ pub enum Invocation<'a> {
     /// A process that keeps the only server of a first chain, which begins with a store that it is told.
     Loaded,
     /// A process that keeps the only server of a first chain, whose entries a journal in a file keeps, of so many mebibytes where it
-    /// is made.
+    /// is made. With `no_create` it isn't made.
     KeptServer {
         path: &'a str,
         mebibytes: u64,
+        no_create: bool,
     },
     /// A process that keeps the master of a first chain of so many servers.
     Master {
@@ -147,6 +148,8 @@ const TURNS: &str = "turns";
 const JOURNAL: &str = "journal";
 
 const JOURNAL_SIZE: &str = "journal-size";
+
+const NO_CREATE: &str = "no-create";
 
 const TWO_SYNCS: &str = "two-syncs";
 
@@ -444,7 +447,19 @@ fn stored_server<'a>(alloc: Global) -> Result<Command<'a>, AllocError>
 {
     let command = placed_server(alloc)?;
     let command = command.arg(entries_option(alloc))?;
-    command.arg(journal_size_option(alloc))
+    let command = command.arg(journal_size_option(alloc))?;
+    command.arg(no_create_option(alloc))
+}
+
+/// Whether the journal has to be there, as an option.
+fn no_create_option<'a>(alloc: Global) -> Arg<'a>
+    ensures rule { rule_of result ≡ no_create_rule }
+    ensures local { result.global ≡ false }
+{
+    Arg::new(alloc, NO_CREATE)
+        .long(NO_CREATE)
+        .action(ArgAction::SetTrue)
+        .help("Makes no journal: that file has to be there, and to have one")
 }
 
 /// The name of the file of a server's journal, as an option.
@@ -738,16 +753,24 @@ fn kept_server_in<'a>(options: &ArgMatches<'a>, path: &'a str) -> Option<Invocat
     }
     let mebibytes = options.get_one::<u64>(JOURNAL_SIZE);
     let mebibytes = mebibytes.unwrap_or(JOURNAL_SIZE_DEFAULT);
-    Some(Invocation::KeptServer { path, mebibytes })
+    let no_create = options.get_flag(NO_CREATE);
+    Some(Invocation::KeptServer {
+        path,
+        mebibytes,
+        no_create,
+    })
 }
 
-/// The process that keeps a server, as these options say. `None`: they don't go with each other, or the size of a journal is given
+/// The process that keeps a server, as these options say. `None`: they don't go with each other, or something is said of a journal
 /// without its file.
 fn server_in<'a>(options: &ArgMatches<'a>) -> Option<Invocation<'a>>
     ensures { IfSome result (λ it. (name_of it ≡ server_name) × IsProcess it × AsksProcess (rows_of (found_of options.now)) it) }
 {
     if let Some(path) = options.get_str(JOURNAL) {
         return kept_server_in(options, path);
+    }
+    if options.get_flag(NO_CREATE) {
+        return None;
     }
     match options.get_one::<u64>(JOURNAL_SIZE) {
         Some(_) => None,

@@ -58,10 +58,19 @@ pub(crate) fn open_or_make(
         Ok(device) => Ok(device),
         Err(OpenFault::Io(error)) if error.kind() == io::ErrorKind::NotFound => {
             create(rt, path, (mebibytes as usize).saturating_mul(1_048_576))?;
-            Ok(open(rt, path, torn, Unknown)?)
+            open_made(rt, path, torn)
         }
         Err(fault) => Err(KeptFault::from(fault)),
     }
+}
+
+/// Opens the file, which has to be there.
+pub(crate) fn open_made(
+    rt: &HostRuntime,
+    path: &str,
+    torn: TornWrites,
+) -> Result<Modelled<Host, Unknown>, KeptFault> {
+    Ok(open(rt, path, torn, Unknown)?)
 }
 
 /// Runs a session whose lines a device keeps.

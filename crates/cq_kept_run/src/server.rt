@@ -8,10 +8,10 @@ ghost use Rattle.cq_process_frames.specs.Frames.{frame};
 ghost use Rattle.cq_kept_run.specs.within.Servers.{ServesFrames};
 
 use crate::blank::{fill, is_blank};
-use crate::fault::{JournalFault, ServerFault};
-use crate::run::open_or_make;
+use crate::fault::{JournalFault, KeptFault, ServerFault};
+use crate::run::{open_made, open_or_make};
 use crate::sizes::{HALF, REGION};
-use cq_disk::{Device, TornWrites};
+use cq_disk::{Device, Host, Modelled, TornWrites, Unknown};
 use cq_frame_loop::{LoopFault, SettledFault, answer_settled_frames};
 use cq_frames::Standing;
 use cq_kept_server::KeptServer;
@@ -26,36 +26,57 @@ use std::io::{Read, Write};
 const STANDING_ROOM: usize = 64;
 
 /// Keeps the only server of a chain, whose entries the file at a path keeps. Where there is no file, one of so many mebibytes is made.
-/// Where there is one, the server begins behind the entries that it has. First a frame tells where the server stands (`done`). After
-/// that the frames of the reader are answered, up to its end or to a fault. What one read brings is kept by one sync, and then what comes
-/// of it is told.
+/// Where there is one, the server begins behind the entries that it has. With `no_create` nothing is made: a file that isn't there is a
+/// failed journal, and one that has nothing but zeros is none. First a frame tells where the server stands (`done`). After that the frames
+/// of the reader are answered, up to its end or to a fault. What one read brings is kept by one sync, and then what comes of it is told.
 pub fn run_kept_server<R: Read, W: Write>(
     rt: &HostRuntime,
     path: &str,
     mebibytes: u64,
+    no_create: bool,
     reader: &mut Checked<R>,
     output: &mut Checked<W>,
 ) -> Result<(), ServerFault>
     requires { is_failed output.old ≡ false }
 {
-    let device = open_or_make(rt, path, mebibytes, TornWrites::OldOrNew)?;
-    let mut server = begin_server(rt.alloc(), device)?;
+    let device = open_file(rt, path, mebibytes, no_create)?;
+    let mut server = begin_server(rt.alloc(), device, no_create)?;
     serve_frames(rt.alloc(), &mut server, reader, output)
 }
 
-/// Begins a server on a device that has nothing, or behind the entries that it has.
-fn begin_server<D: Device>(alloc: Global, device: D) -> Result<KeptServer<D>, ServerFault>
+/// Opens the file of a server, or makes one of so many mebibytes where there is none and one may be made.
+fn open_file(
+    rt: &HostRuntime,
+    path: &str,
+    mebibytes: u64,
+    no_create: bool,
+) -> Result<Modelled<Host, Unknown>, KeptFault> {
+    if no_create {
+        return open_made(rt, path, TornWrites::OldOrNew);
+    }
+    open_or_make(rt, path, mebibytes, TornWrites::OldOrNew)
+}
+
+/// Begins a server behind the entries that a device has, or on one that has nothing, where a journal may be made there.
+fn begin_server<D: Device>(
+    alloc: Global,
+    device: D,
+    no_create: bool,
+) -> Result<KeptServer<D>, ServerFault>
     ensures { IfOk result (λ server. IsReady server × IsSettled server) }
 {
     let mut device = device;
     if device.len() < HALF + HALF {
         return Err(ServerFault::Journal(JournalFault::NotAJournal));
     }
-    if is_blank(&mut device)? {
-        fill(&mut device)?;
-        return Ok(KeptServer::create(alloc, device, HALF, REGION)?);
+    if !is_blank(&mut device)? {
+        return Ok(KeptServer::open(alloc, device, HALF, REGION)?);
     }
-    Ok(KeptServer::open(alloc, device, HALF, REGION)?)
+    if no_create {
+        return Err(ServerFault::Journal(JournalFault::NotAJournal));
+    }
+    fill(&mut device)?;
+    Ok(KeptServer::create(alloc, device, HALF, REGION)?)
 }
 
 /// Tells where a server stands, and flushes that.

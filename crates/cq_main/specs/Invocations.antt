@@ -45,7 +45,7 @@ Runs (Master size) status unread left reader_failed written output writer_failed
     RunsProcess (KeepsMaster size) status unread left reader_failed written output writer_failed writer_flushed failed old new
 Runs Loaded status unread left reader_failed written output writer_failed writer_flushed failed old new =
     RunsLoaded status unread left reader_failed written output writer_failed writer_flushed failed old new
-Runs (KeptServer path mebibytes) status unread left reader_failed written output writer_failed writer_flushed failed old new =
+Runs (KeptServer path mebibytes no_create) status unread left reader_failed written output writer_failed writer_flushed failed old new =
     RunsKeptServer status failed old new
 Runs (Explain size is_live) status unread left reader_failed written output writer_failed writer_flushed failed old new =
     RunsExplain status failed old new

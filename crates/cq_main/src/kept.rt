@@ -30,11 +30,12 @@ pub trait KeptSessions {
     ) -> Result<(), KeptFault>
         requires { is_failed output.old ≡ false };
 
-    /// Keeps the only server of a chain, and its entries in a file, of so many mebibytes where it is made.
+    /// Keeps the only server of a chain, and its entries in a file, of so many mebibytes where it is made. With `no_create` it isn't.
     fn serve<R: Read, W: Write>(
         &self,
         path: &str,
         mebibytes: u64,
+        no_create: bool,
         reader: &mut Checked<R>,
         output: &mut Checked<W>,
     ) -> Result<(), ServerFault>
@@ -79,10 +80,11 @@ impl KeptSessions for HostRuntime {
         &self,
         path: &str,
         mebibytes: u64,
+        no_create: bool,
         reader: &mut Checked<R>,
         output: &mut Checked<W>,
     ) -> Result<(), ServerFault> {
-        run_kept_server(self, path, mebibytes, reader, output)
+        run_kept_server(self, path, mebibytes, no_create, reader, output)
     }
 
     fn verify<W: Write>(&self, path: &str, output: &mut Checked<W>) -> Result<(), KeptFault> {
@@ -150,6 +152,7 @@ pub fn run_server<H: KeptSessions, R: Read, W: Write, E: Write>(
     rt: &H,
     path: &str,
     mebibytes: u64,
+    no_create: bool,
     reader: &mut Checked<R>,
     output: &mut Checked<W>,
     errors: &mut Checked<E>,
@@ -157,7 +160,10 @@ pub fn run_server<H: KeptSessions, R: Read, W: Write, E: Write>(
     requires { is_failed output.old ≡ false }
     ensures { RunsKeptServer result (is_failed errors.new) (E.contents (inner_of errors.old)) (E.contents (inner_of errors.new)) }
 {
-    end_server(&rt.serve(path, mebibytes, reader, output), errors)
+    end_server(
+        &rt.serve(path, mebibytes, no_create, reader, output),
+        errors,
+    )
 }
 
 /// Tells what the journal in a file has, or its fault, and gives the status with which the program ends.

@@ -119,9 +119,11 @@ fn carry_out<H: Threads + Wait + Sync + KeptSessions, R: Read, W: Write, E: Writ
         Invocation::First { id, size } => run_first(alloc, *id, *size, reader, output, errors),
         Invocation::Joining { id } => run_joining(alloc, *id, reader, output, errors),
         Invocation::Loaded => run_loaded(alloc, reader, output, errors),
-        Invocation::KeptServer { path, mebibytes } => {
-            run_server(rt, path, *mebibytes, reader, output, errors)
-        }
+        Invocation::KeptServer {
+            path,
+            mebibytes,
+            no_create,
+        } => run_server(rt, path, *mebibytes, *no_create, reader, output, errors),
         Invocation::Master { size } => run_master(alloc, *size, reader, output, errors),
         Invocation::Explain { size, is_live } => {
             run_explain(alloc, *size, *is_live, reader, output, errors)

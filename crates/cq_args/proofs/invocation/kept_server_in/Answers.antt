@@ -16,14 +16,16 @@ returns c =
     (λ text n gives. gives.0.1) (codes "journal-size") (rows_of f) f c.get_one-mebibytes.result refl c.get_one-mebibytes.ensures.none c.get_one-mebibytes.ensures.value in (
       refl,
       tt,
-      (
-        c.requires,
-        number_found (λ text r. ParsesUnsigned 32 10 text r × ExplainsUnsignedError 10 text r × HasUnsignedDigitsIfOk text r)
-            (λ text n gives. gives.0.1) (codes "id") f c.get_one.result c.in_ok-id.id 1 c.get_one.ensures.none c.get_one.ensures.value c.in_ok-id.was (sym c.if-id-ne1.false),
-        number_found (λ text r. ParsesUnsigned 8 10 text r × ExplainsUnsignedError 10 text r × HasUnsignedDigitsIfOk text r)
-            (λ text n gives. gives.0.1) (codes "first") f c.get_one-2.result c.in_ok-size.size 1 c.get_one-2.ensures.none c.get_one-2.ensures.value c.in_ok-size.was (sym c.if-size-ne1.false),
-        read_or _ c.get_one-mebibytes.result _ c.unwrap_or-mebibytes.ensures size,
-        λ is. not_both c.get_flag.result (c.get_flag.ensures.value (one_text-rows f (codes "joining") ∙ is)) c.if-get_flag.false,
-        λ is. not_both c.get_flag-2.result (c.get_flag-2.ensures.value (one_text-rows f (codes "load") ∙ is)) c.if-get_flag-2.false,
-      ),
+      record {
+        file = c.requires;
+        id = number_found (λ text r. ParsesUnsigned 32 10 text r × ExplainsUnsignedError 10 text r × HasUnsignedDigitsIfOk text r)
+            (λ text n gives. gives.0.1) (codes "id") f c.get_one.result c.in_ok-id.id 1 c.get_one.ensures.none c.get_one.ensures.value c.in_ok-id.was (sym c.if-id-ne1.false);
+        first = number_found (λ text r. ParsesUnsigned 8 10 text r × ExplainsUnsignedError 10 text r × HasUnsignedDigitsIfOk text r)
+            (λ text n gives. gives.0.1) (codes "first") f c.get_one-2.result c.in_ok-size.size 1 c.get_one-2.ensures.none c.get_one-2.ensures.value c.in_ok-size.was (sym c.if-size-ne1.false);
+        length = read_or _ c.get_one-mebibytes.result _ c.unwrap_or-mebibytes.ensures size;
+        alone = λ is. not_both c.get_flag.result (c.get_flag.ensures.value (one_text-rows f (codes "joining") ∙ is)) c.if-get_flag.false;
+        empty = λ is. not_both c.get_flag-2.result (c.get_flag-2.ensures.value (one_text-rows f (codes "load") ∙ is)) c.if-get_flag-2.false;
+        is_told = λ is. c.get_flag-no_create.ensures.value (one_text-rows f (codes "no-create") ∙ is);
+        is_not_told = λ is. c.get_flag-no_create.ensures.other (one_text-rows f (codes "no-create") ∙ is);
+      },
     )

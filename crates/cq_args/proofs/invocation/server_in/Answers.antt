@@ -16,7 +16,7 @@ unkept : (rows : List Row) (it : Invocation) → first_of (codes "journal") rows
 unkept rows (First id size) none asks = (refl, tt, (asks, none))
 unkept rows (Joining id) none asks = (refl, tt, (asks, none))
 unkept rows Loaded none asks = (refl, tt, (asks, none))
-unkept rows (KeptServer path mebibytes) none asks = absurd asks
+unkept rows (KeptServer path mebibytes no_create) none asks = absurd asks
 unkept rows (Replay size) none asks = absurd asks
 unkept rows (Session size) none asks = absurd asks
 unkept rows (Kept size journal) none asks = absurd asks
