@@ -16,6 +16,9 @@ from clusters import Node, children_of
 # What a test writes to etcd, and what isn't there any more once a copy from before is put back.
 MARK = "of-a-test/behind-the-copy"
 
+# What a node says whose wall clock isn't the cluster's.
+OFF = "the wall clock of this machine is off the cluster's time"
+
 
 class ServedFaults(Faults):
     def __init__(self, served: Served, seed: int, disks: Disks | None = None, can_count_asks: bool = False) -> None:
@@ -179,12 +182,18 @@ class ServedFaults(Faults):
             fault.about.append(cut.ends())
 
     def step_clock(self) -> None:
-        """The wall clock of a node and its gateway is an hour off, for good. Nothing is to follow."""
-        clocks = [node for node in self.cluster.nodes if node.look() and node.lives() and node.clock]
+        """The wall clock of a node and its gateway is an hour off, for good. Nothing is to follow, but that the node says so."""
+        good = self.good()
+        clocks = [node for node in self.cluster.nodes if node.server in good and node.clock]
         if clocks:
-            node, by = self.random.choice(clocks), self.random.choice(["+3600", "-3600", "+0"])
+            node = self.random.choice(clocks)
+            by = self.random.choice([one for one in ("+3600", "-3600", "+7200") if one != node.clock.by])
+            before = node.log.read_text().count(OFF)
             self.note("a wall clock stepped", node.server, by)
+            self.touch(node.server, 6)
             node.clock.step(by)
+            self.until(5, lambda: not node.lives() or node.log.read_text().count(OFF) > before)
+            assert not node.lives() or node.log.read_text().count(OFF) > before, f"server {node.server} sees no step of its clock"
 
     # ---- disks
 

@@ -292,11 +292,12 @@ class WallClock:
     """The wall clock of a node and its gateway, which a test can step."""
 
     def __init__(self, file: Path) -> None:
-        self.file = file
+        self.file, self.by = file, ""
         self.step("+0")
 
     def step(self, by: str) -> None:
         """By so many seconds from the machine's, as `+3600`."""
+        self.by = by
         new = self.file.with_suffix(".new")
         new.write_text(f"{by}\n")
         new.replace(self.file)

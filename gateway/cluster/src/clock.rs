@@ -5,6 +5,8 @@
 //! So a wall clock that is wrong changes nothing at once, and a new head goes on where the old one was. No time is
 //! part of what keeps data safe.
 
+use std::time::SystemTime;
+
 use rustix::time::{clock_gettime, clock_gettime_dynamic, ClockId, DynamicClockId, Timespec};
 
 /// Of a hundred parts of time that pass, the offset changes by one at most.
@@ -12,6 +14,9 @@ const SLOWEST: u64 = 100;
 
 /// A wall clock that is off by more is worth a line in the log, in milliseconds.
 const WORTH_SAYING: u64 = 5_000;
+
+/// It is said again where it is off otherwise by more than that.
+const WORTH_REPEATING: u64 = 60_000;
 
 /// The cluster's time, as one server knows it. All times are in milliseconds.
 #[derive(Debug, Default)]
@@ -22,7 +27,8 @@ pub struct Clock {
     last: u64,
     /// When the offset was changed slowly, by the time since the system's start.
     changed: u64,
-    has_said: bool,
+    /// By how much the wall clock was off when that was last logged.
+    said: Option<i64>,
 }
 
 impl Clock {
@@ -60,15 +66,22 @@ impl Clock {
         if self.offset.is_none() {
             return self.set(wall, since_start);
         }
-        let off = wall.abs_diff(self.now(since_start));
-        if off > WORTH_SAYING && !self.has_said {
-            tracing::warn!(
-                milliseconds = off,
-                "the wall clock and the cluster's time differ: they come together slowly"
-            );
-        }
-        self.has_said = off > WORTH_SAYING;
         self.go_towards(wall, since_start);
+    }
+
+    /// Of each server: the wall clock shows this time. How far it is off, if that is worth a line of the log.
+    pub fn compare(&mut self, wall: u64, since_start: u64) -> Option<i64> {
+        self.offset?;
+        let off = difference(wall, self.now(since_start));
+        if off.unsigned_abs() <= WORTH_SAYING {
+            self.said = None;
+            return None;
+        }
+        if self.said.is_some_and(|said| said.abs_diff(off) <= WORTH_REPEATING) {
+            return None;
+        }
+        self.said = Some(off);
+        self.said
     }
 
     fn is_behind(&self, time: u64, since_start: u64) -> bool {
@@ -111,9 +124,10 @@ pub fn since_start() -> u64 {
     milliseconds(clock_gettime_dynamic(DynamicClockId::Boottime).unwrap_or_else(|_| clock_gettime(ClockId::Monotonic)))
 }
 
-/// What the wall clock shows.
+/// What the wall clock shows, by the C library's call, so that a test can step it (libfaketime).
 pub fn wall() -> u64 {
-    milliseconds(clock_gettime(ClockId::Realtime))
+    let since = SystemTime::now().duration_since(SystemTime::UNIX_EPOCH).unwrap_or_default();
+    u64::try_from(since.as_millis()).unwrap_or(u64::MAX)
 }
 
 fn milliseconds(time: Timespec) -> u64 {
@@ -137,6 +151,20 @@ mod tests {
         assert_eq!(clock.now(2_000), WALL + 1_000 + 10);
         clock.lead(WALL - HOUR, 3_000);
         assert_eq!(clock.now(3_000), WALL + 2_000);
+    }
+
+    #[test]
+    fn a_wall_clock_that_is_off_is_told_and_told_again_where_it_steps() {
+        let mut clock = Clock::default();
+        assert_eq!(clock.compare(WALL, 1_000), None, "nobody has told a time yet");
+        clock.follow(WALL, 1_000);
+        let mut shows = |wall, since_start| clock.compare(wall, since_start);
+        assert_eq!(shows(WALL + 6_000, 2_000), None);
+        assert_eq!(shows(WALL + HOUR, 1_000), Some(HOUR as i64));
+        assert_eq!(shows(WALL + HOUR + 1_000, 1_500), None);
+        assert_eq!(shows(WALL - HOUR, 1_000), Some(-(HOUR as i64)));
+        assert_eq!(shows(WALL, 1_000), None);
+        assert_eq!(shows(WALL - HOUR, 1_000), Some(-(HOUR as i64)));
     }
 
     #[test]

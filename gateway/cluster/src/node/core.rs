@@ -688,6 +688,19 @@ impl Core {
 
     // ---- time
 
+    fn look_at_clock(&self) {
+        let (mut clock, wall, since_start) = (lock(&self.node.clock), clock::wall(), clock::since_start());
+        if self.standing.is_head {
+            clock.lead(wall, since_start);
+        }
+        if let Some(milliseconds) = clock.compare(wall, since_start) {
+            tracing::warn!(
+                milliseconds,
+                "the wall clock of this machine is off the cluster's time, which goes towards that of the head slowly"
+            );
+        }
+    }
+
     fn tick(&mut self) {
         if self.ticked.elapsed() > STOPPED {
             // This process was stopped, and perhaps the server with it.
@@ -702,9 +715,7 @@ impl Core {
         for wait in self.waiting.values_mut().filter(|wait| **wait == Wait::Later) {
             *wait = Wait::Now;
         }
-        if self.standing.is_head {
-            lock(&self.node.clock).lead(clock::wall(), clock::since_start());
-        }
+        self.look_at_clock();
         self.look_at_server();
         self.look_at_joiner();
         if self.leaving.is_some_and(|since| since.elapsed() > LEAVING) {
