@@ -22,8 +22,11 @@ class Rules:
     parts_first: bool = True            # the parts of a large body stand before the line that names them
     frees_behind: bool = True           # they are removed behind the answer to the deletion
     delays_in_store: bool = True
-    counts_names: bool = True           # a queue's number is above all in the store
-    hashes_ids: bool = True             # a MessageId is a function of the message's place
+    reads_names: bool = True            # which numbers are free is found in the store
+    marks_copies: bool = True           # a copy names its original's queue by the mark that each creation draws
+    marks_handles: bool = True          # so does a receipt handle
+    marks_ids: bool = True              # a MessageId is made of it
+    hashes_ids: bool = True             # a MessageId is a function of queue and number
     asks_when_handed: bool = True       # set aside is only a message that was handed out since the target is there
 
 
@@ -48,7 +51,10 @@ DESIGNS = {
     "line-first": (replace(RIGHT, parts_first=False), "the line of a large body is sent before the parts"),
     "freed-beside": (replace(RIGHT, frees_behind=False), "the parts are removed beside the deletion, not behind its answer"),
     "delays-in-memory": (replace(RIGHT, delays_in_store=False), "the gateway's memory has the delayed messages"),
-    "numbers-in-memory": (replace(RIGHT, counts_names=False), "the numbers of queues are counted in memory"),
+    "numbers-in-memory": (replace(RIGHT, reads_names=False), "the numbers of queues are counted in memory"),
+    "copy-by-name": (replace(RIGHT, marks_copies=False), "a copy names its original by a number that is used again"),
+    "handle-by-name": (replace(RIGHT, marks_handles=False), "a receipt handle names its queue by a number that is used again"),
+    "id-by-name": (replace(RIGHT, marks_ids=False), "a MessageId is made of a number that is used again"),
     "ids-in-memory": (replace(RIGHT, hashes_ids=False), "MessageIds are random and kept in memory"),
     "handed-whenever": (replace(RIGHT, asks_when_handed=False), "a start moves each message that was handed out too often"),
 }

@@ -1,10 +1,12 @@
 """The gateway: asks in one stream, tables that follow the answers, and tasks in steps."""
 import itertools
 from collections import Counter, deque
+from contextlib import contextmanager
 
-from gateway_state.store import HOUR, MINUTE, SECOND, Ask, Entry, Message, Queue, State, offer
+from gateway_state.store import HOUR, MINUTE, SECOND, WINDOW, Ask, Entry, Message, Queue, State, offer
 
 HIDDEN = 12 * HOUR              # for how long the gateway receives from queues of its own
+PAUSE = MINUTE + WINDOW         # so long behind its end the number of a queue is free again
 MOST = 1                        # so often a message is handed out before it is a dead letter
 DEAD_LETTERS = {"orders": "dead"}
 BOOK, NOWHERE = ("book", 0), ("nowhere", 0)
@@ -56,6 +58,7 @@ class Gateway:
         self.open, self.held = [], set()
         self.free = {pool: list(numbers) for pool, numbers in POOLS.items()}
         self.memory, self.own, self.ids, self.count, self.vain = [], {}, {}, 0, 0
+        self.users, self.waits = Counter(), {}      # who has a queue's number; since when numbers that somebody had wait again
         self.tasks = []
         self.begin(self.start())
 
@@ -171,12 +174,46 @@ class Gateway:
     def names(self):
         return {body["number"]: about[1] for about, body in self.book().items() if about[0] == "queue" and body["stage"] == "there"}
 
-    def next_number(self):
-        if not self.rules.counts_names:
+    def marks(self):
+        """The numbers of queues that are there, by their marks."""
+        book = [body for about, body in self.book().items() if about[0] == "queue"]
+        return {body["mark"]: body["number"] for body in book if body["stage"] == "there"}
+
+    def mark(self, name):
+        """The mark of the queue of that name, or None."""
+        said = self.said("queue", name)
+        return said["mark"] if said["stage"] == "there" else None
+
+    def free_number(self, now):
+        """The number that went first, where its pause is over and nobody has anything of its queue, or one above all."""
+        if not self.rules.reads_names:
             self.count += 1
             return self.count
-        return 1 + max([0] + [number for kind, number in [*self.tables.queues, *self.tables.removed] if kind == "main"]
-                       + [body["number"] for about, body in self.book().items() if about[0] == "queue"])
+        gone = {number for kind, number in self.tables.removed if kind == "main"}
+        waiting = sorted((self.gone_since(number), number) for number in gone if not self.is_there(number))
+        if waiting and waiting[0][0] + PAUSE <= now:
+            number = waiting[0][1]
+            if not self.users[number]:
+                return number
+            self.waits[number] = now
+        return 1 + max([0] + [number for kind, number in [*self.tables.queues, *self.tables.removed] if kind in ("main", "delayed")])
+
+    def is_there(self, number):
+        return any(queue in self.tables.queues for queue in stores(number))
+
+    def gone_since(self, number):
+        """When it went, or since when it waits again. Elsewhere an earlier gateway may have asks on their way."""
+        went = [self.tables.removed[queue][0] for queue in stores(number) if queue in self.tables.removed]
+        return max(*went, self.waits.get(number, 0), 0 if self.rules.cuts else self.begun)
+
+    @contextmanager
+    def using(self, number):
+        """As long as somebody has it, a number isn't used again."""
+        self.users[number] += 1
+        try:
+            yield
+        finally:
+            self.users[number] -= 1
 
     def free_body(self, now):
         """The name of a queue for a large body: one that isn't there, and wasn't a minute ago."""
@@ -189,10 +226,13 @@ class Gateway:
     def receipt(self, queue, number):
         return (self.tables.queues[queue].incarnation, number, self.messages(queue)[number].handed)
 
-    def id_of(self, queue, number, body):
+    def mark_of(self, number):
+        return next((mark for mark, it in self.marks().items() if it == number), None)
+
+    def id_of(self, mark, queue, number, body):
         if self.rules.hashes_ids:
-            return body.get("id", (queue, number))
-        return self.ids.setdefault((queue, number), self.random.getrandbits(60))
+            return body.get("id", (mark if self.rules.marks_ids else queue[1], queue[0], number))
+        return self.ids.setdefault((mark, queue, number), self.random.getrandbits(60))
 
     def deletion(self, queue, number, by=("gateway",), pool="ordinary"):
         return Ask("delete", queue, (self.receipt(queue, number),), by, pool)
@@ -238,11 +278,11 @@ class Gateway:
         unique = {number: f"{self.random.getrandbits(60)}" for number in numbers}
 
         def moved(number):
-            message = self.messages(source)[number]
-            body = {**message.body, "id": self.id_of(source, number, message.body), "in": target, **more}
+            message, mark = self.messages(source)[number], self.mark_of(source[1])
+            body = {**message.body, "id": self.id_of(mark, source, number, message.body), "in": target, **more}
             body.pop("due", None)
             if self.rules.names_original:
-                body["of"] = (source, number)
+                body["of"] = (mark if self.rules.marks_copies else source[1], source[0], number)
             dedup = unique[number] if self.rules.side_by_side else f"{source}{number}"
             return Ask("send", ("main", self.living(target)), (message.group, dedup, body), ("move",), "begin")
 
@@ -303,16 +343,13 @@ class Gateway:
     def unfinished(self):
         """What a start has to bring to its end: whatever an earlier gateway had begun, as the tables alone say it."""
         book, lines = self.book(), [(queue, message.body) for queue, it in self.tables.queues.items() for message in it.messages.values()]
-        yield from (("cut", *body["of"]) for _, body in lines if "of" in body and body["of"][1] in self.messages(body["of"][0]))
-        for about, body in book.items():
-            if about[0] == "queue":
-                living = [queue for queue in stores(body["number"]) if queue in self.tables.queues]
-                if body["stage"] == "making":
-                    yield ("make", about[1], body["number"])
-                if body["stage"] == "removed" and living:
-                    yield ("remove", living)
-                if body.get("purge"):
-                    yield ("purge", about[1])
+        marks, names = self.marks(), self.names()
+        for source, kind, number in [body["of"] for _, body in lines if "of" in body]:
+            queue = (kind, marks.get(source) if self.rules.marks_copies else source)
+            if number in self.messages(queue):
+                yield ("cut", queue, number)
+        yield from (("purge", about[1]) for about, body in book.items() if about[0] == "queue" and body.get("purge"))
+        yield from (("remove", [queue]) for queue in self.tables.queues if queue[0] in ("main", "delayed") and queue[1] not in names)
         used = {body.get("parts") for _, body in lines}
         yield from (("unused", queue) for queue in self.tables.queues if queue[0] == "body" and queue not in used)
         for source, target in DEAD_LETTERS.items():
@@ -329,8 +366,6 @@ class Gateway:
             kind, *about = found
             if kind == "cut":
                 yield lambda _: [self.deletion(*about, ("move",), "end")]
-            elif kind == "make":
-                yield from self.make(*about)
             elif kind == "remove":
                 yield from self.remove_all(about[0], ("removal",))
             elif kind == "purge":
@@ -356,15 +391,11 @@ class Gateway:
             self.answer(request, "QueueDeletedRecently")
         else:
             if said["stage"] != "there":
-                number = self.next_number()
-                yield from self.say("queue", request.name, stage="making", number=number)
-                yield from self.make(request.name, number)
+                number = self.free_number(self.clock())
+                yield lambda _: [Ask("create", queue) for queue in stores(number)]
+                yield from self.say("queue", request.name, stage="there", number=number, mark=self.random.getrandbits(30))
             self.answer(request, "done")
         self.release("names")
-
-    def make(self, name, number):
-        yield lambda _: [Ask("create", queue) for queue in stores(number)]
-        yield from self.say("queue", name, stage="there", number=number)
 
     def remove(self, request):
         yield from self.take_turn("names")
@@ -372,7 +403,7 @@ class Gateway:
         if number:
             queues = stores(number)
             yield from self.hold(*queues)
-            yield from self.say("queue", request.name, stage="removed", number=number, call=request.number)
+            yield from self.say("queue", request.name, stage="removed", call=request.number)
             yield lambda _: None if self.is_asked(*queues) else []
             bodies = [message.body for queue in queues for message in self.messages(queue).values()]
             yield from self.remove_all(queues, ("removal",))
@@ -388,7 +419,8 @@ class Gateway:
             number = self.living(request.name)
             if not number:
                 return []
-            body = {"key": (request.number, number), "in": request.name, "sent": now}
+            mark = self.mark(request.name)
+            body = {"key": (request.number, mark), "in": request.name, "sent": now}
             if request.delay and not self.rules.delays_in_store:
                 self.memory.append((now + request.delay, ("main", number), request, body))
                 asked[:] = [None, body]
@@ -405,7 +437,7 @@ class Gateway:
         queue, body = asked or (None, None)
         line = next((it for it in opens if it.entry.ask.queue == queue), None)
         if line and line.reply[0] == "sent":
-            self.answer(request, "done", key=body["key"], id=self.id_of(queue, line.reply[1], {}))
+            self.answer(request, "done", key=body["key"], id=self.id_of(body["key"][1], queue, line.reply[1], {}))
         elif body and not queue:
             self.answer(request, "done", key=body["key"], id=None)
         else:
@@ -419,12 +451,12 @@ class Gateway:
         sends = [("parts", f"{part}", {"part": part, "key": body["key"]}) for part in (1, 2)]
         return [Ask("create", name, pool="begin")] + [Ask("send", name, send, pool="begin") for send in sends]
 
-    def unheld(self, request, queue, ask):
-        """The step that asks for a client, as soon as nobody holds the queue."""
+    def unheld(self, request, queue, mark, ask):
+        """The step that asks for a client, as soon as nobody holds the queue. A queue of another mark is another one."""
         passed = []
 
         def job(_):
-            if self.living(request.name) != queue[1]:
+            if self.living(request.name) != queue[1] or self.mark(request.name) != mark and self.rules.marks_handles:
                 return []
             if queue in self.held and not passed:
                 return None
@@ -434,8 +466,13 @@ class Gateway:
         return job
 
     def receive(self, request):
-        queue = ("main", self.living(request.name))
-        opens = yield self.unheld(request, queue, Ask("receive", queue, (request.size, request.timeout), ("client", request)))
+        number, mark = self.living(request.name), self.mark(request.name)
+        with self.using(number):
+            yield from self.receive_from(request, ("main", number), mark)
+
+    def receive_from(self, request, queue, mark):
+        ask = Ask("receive", queue, (request.size, request.timeout), ("client", request))
+        opens = yield self.unheld(request, queue, mark, ask)
         handed = opens[0].reply[1] if opens and opens[0].reply[0] == "received" else []
         target = DEAD_LETTERS.get(request.name)
         aside = [receipt[1] for receipt, _, _ in handed if receipt[2] > MOST and target and self.living(target)]
@@ -454,32 +491,45 @@ class Gateway:
                     if receipt[1] in self.messages(queue):
                         self.world.hurt("torn", body["key"])
                     continue
-            messages.append((queue, receipt, body, self.id_of(queue, receipt[1], body)))
+            messages.append((queue, (mark, *receipt[1:]), body, self.id_of(mark, queue, receipt[1], body)))
         self.answer(request, "done", messages=messages)
 
     def delete(self, request):
-        queue, receipt, body = request.handle
+        queue, (mark, *_), body = request.handle
+        receipt = self.receipt_of(request.handle)
         receipt = self.own.get((queue, receipt[1]), {}).get(receipt, receipt)
-        job = self.unheld(request, queue, Ask("delete", queue, (receipt,), ("client", request)))
-        if self.rules.frees_behind or not body.get("parts"):
-            opens = yield job
-        else:
-            opens = yield lambda now: (asks := job(now)) and [*asks, Ask("remove", body["parts"])]
+        job = self.unheld(request, queue, mark, Ask("delete", queue, (receipt,), ("client", request)))
+        with self.using(queue[1]):
+            if self.rules.frees_behind or not body.get("parts"):
+                opens = yield job
+            else:
+                opens = yield lambda now: (asks := job(now)) and [*asks, Ask("remove", body["parts"])]
         self.answer(request, "done" if opens and opens[0].reply[0] == "deleted" else "refused")
         if opens and opens[0].reply == ("deleted", True) and self.rules.frees_behind:
             yield from self.free_parts([body])
 
     def change(self, request):
-        queue, receipt, _ = request.handle
-        yield self.unheld(request, queue, Ask("change", queue, (receipt, request.timeout), ("client", request)))
+        queue, (mark, *_), _ = request.handle
+        ask = Ask("change", queue, (self.receipt_of(request.handle), request.timeout), ("client", request))
+        with self.using(queue[1]):
+            yield self.unheld(request, queue, mark, ask)
         self.answer(request, "done")
 
+    def receipt_of(self, handle):
+        """The store's receipt: it says which one of the queues of that number it is of."""
+        queue, (_, number, ordinal), _ = handle
+        return (self.tables.queues[queue].incarnation if queue in self.tables.queues else 0, number, ordinal)
+
     def purge(self, request):
-        number = self.living(request.name)
+        number, mark = self.living(request.name), self.mark(request.name)
+        with self.using(number):
+            yield from self.purge_one(request, number, mark)
+
+    def purge_one(self, request, number, mark):
         queues = stores(number)
         yield from self.hold(*queues)
         said = self.said("queue", request.name)
-        if number and self.living(request.name) == number and said.get("purged") != request.number:
+        if number and self.mark(request.name) == mark and said.get("purged") != request.number:
             def begin(now):
                 bounds = [self.tables.queues[queue].accepted for queue in queues]
                 return next(self.say("queue", request.name, **{**said, "purge": (request.number, bounds)}))(now)
@@ -500,7 +550,7 @@ class Gateway:
         number, said = self.living(request.name), self.said("task", request.name)
         if number and said["stage"] != "running":
             yield lambda now: next(self.say(
-                "task", request.name, stage="running", number=number, bound=self.accepted(("main", number))))(now)
+                "task", request.name, stage="running", mark=self.mark(request.name), bound=self.accepted(("main", number))))(now)
         self.release("tasks")
         self.answer(request, "done")
 
@@ -522,11 +572,12 @@ class Gateway:
                 self.memory.pop(0)
             elif found := due(self.clock()):
                 name, queue, numbers = found
-                yield from self.hold(queue)
-                while any(number in self.messages(queue) and not self.messages(queue)[number].handed for number in numbers):
-                    yield lambda _: [Ask("receive", queue, (10, HIDDEN))]
-                yield from self.move(queue, numbers, name)
-                self.release(queue)
+                with self.using(queue[1]):
+                    yield from self.hold(queue)
+                    while any(number in self.messages(queue) and not self.messages(queue)[number].handed for number in numbers):
+                        yield lambda _: [Ask("receive", queue, (10, HIDDEN))]
+                    yield from self.move(queue, numbers, name)
+                    self.release(queue)
 
     def remembered(self, now):
         """What is due of the messages in memory, in the design that has them there."""
@@ -547,12 +598,13 @@ class Gateway:
         while True:
             yield lambda now: [] if now >= self.vain and due(now) else None
             for queue in due(self.clock()):
-                yield from self.hold(queue)
-                if self.rules.exact:
-                    yield from self.clear(queue, old, ("sweep", None))
-                else:
-                    yield from self.clear_ten(queue, old)
-                self.release(queue)
+                with self.using(queue[1]):
+                    yield from self.hold(queue)
+                    if self.rules.exact:
+                        yield from self.clear(queue, old, ("sweep", None))
+                    else:
+                        yield from self.clear_ten(queue, old)
+                    self.release(queue)
             self.vain = self.clock() + 10 * SECOND
 
     def clear_ten(self, queue, theirs):
@@ -579,7 +631,7 @@ class Gateway:
         def ready(now):
             if not (task := running()):
                 return None
-            queue, end = ("main", task[1]["number"]), max(task[1]["since"], self.begun) + MINUTE
+            queue, end = ("main", self.marks().get(task[1]["mark"])), max(task[1]["since"], self.begun) + MINUTE
             return [] if now >= end or self.leading(queue, now, within(task[1]["bound"]), 3) else None
 
         while True:
@@ -587,7 +639,7 @@ class Gateway:
             if not (task := running()):
                 continue
             name, said = task
-            queue, numbers = ("main", said["number"]), []
+            queue, numbers = ("main", self.marks().get(said["mark"])), []
 
             def job(now):
                 if self.is_asked(queue):
@@ -595,12 +647,13 @@ class Gateway:
                 exact = self.leading(queue, now, within(said["bound"]), 3)
                 return [Ask("receive", queue, (exact, MINUTE), ("task",))] if exact else []
 
-            yield from self.hold(queue)
-            opens = yield job
-            if opens and opens[0].reply[0] == "received":
-                numbers = [receipt[1] for receipt, _, _ in opens[0].reply[1]]
-                yield from self.move(queue, numbers, "orders")
-            self.release(queue)
+            with self.using(queue[1]):
+                yield from self.hold(queue)
+                opens = yield job
+                if opens and opens[0].reply[0] == "received":
+                    numbers = [receipt[1] for receipt, _, _ in opens[0].reply[1]]
+                    yield from self.move(queue, numbers, "orders")
+                self.release(queue)
             if not numbers:
                 yield from self.say("task", name, **{**said, "stage": "ended"})
 

@@ -10,7 +10,7 @@ class Oracle:
         self.world = world
         self.acknowledged, self.ids, self.deleted = set(), {}, set()
         self.consumed, self.gone, self.counted = Counter(), Counter(), Counter()
-        self.shown, self.hurts = {}, []
+        self.shown, self.hurts, self.owners = {}, [], {}
 
     def hurt(self, kind, key=None):
         self.hurts.append((kind, key))
@@ -21,16 +21,16 @@ class Oracle:
         """A fresh entry, with the messages of its queue before it that it may take out."""
         who, *more = ask.by
         if ask.kind == "receive" and reply[0] == "received":
-            for (_, number, ordinal), _, body in reply[1]:
+            for (incarnation, number, ordinal), _, body in reply[1]:
                 if who in ("client", "task"):
-                    self.shown[ask.queue, number] = ordinal
-                    self.counted[ask.queue, number] += 1
+                    self.shown[ask.queue, incarnation, number] = ordinal
+                    self.counted[ask.queue, incarnation, number] += 1
                     if body["key"] in self.deleted:
                         self.hurt("handed out after its deletion", body["key"])
         elif ask.kind == "delete":
-            _, number, ordinal = ask.args[0]
+            incarnation, number, ordinal = ask.args[0]
             if who == "client":
-                more[0].promised = ordinal >= self.shown.get((ask.queue, number), 0)
+                more[0].promised = ordinal >= self.shown.get((ask.queue, incarnation, number), 0)
             if reply == ("deleted", True):
                 self.goes(now, who, more, number, before[number].body)
         elif reply[0] == "removed":
@@ -42,6 +42,8 @@ class Oracle:
         key = body.get("key")
         if who == "client":
             self.consumed[key] += 1
+            if key != more[0].handle[2]["key"]:
+                self.hurt("lost", key)
         elif who == "purge":
             self.gone[key] += 1
             if number > more[0]:
@@ -67,7 +69,7 @@ class Oracle:
             self.deleted.add(request.handle[2]["key"])
 
     def has_id(self, key, told):
-        if told is not None and self.ids.setdefault(key, told) != told:
+        if told is not None and (self.ids.setdefault(key, told) != told or self.owners.setdefault(told, key) != key):
             self.hurt("another id", key)
 
     # -- the end
@@ -88,7 +90,7 @@ class Oracle:
                     parts = [part.body for part in state.messages(body["parts"]).values()]
                     if parts != [{"part": part, "key": body["key"]} for part in (1, 2)]:
                         self.hurt("torn", body["key"])
-                if queue[0] == "main" and message.handed != self.counted[queue, number]:
+                if queue[0] == "main" and message.handed != self.counted[queue, it.incarnation, number]:
                     self.hurt("handed to nobody", body["key"])
         for queue in state.queues:
             if queue[0] == "body" and queue not in used:

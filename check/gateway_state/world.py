@@ -46,6 +46,8 @@ class World:
         self.ends_behind, self.ends_soon = self.random.choice([0, .4]), False   # crashes behind the answer to a deletion
         self.retention = self.random.choice([10 * MINUTE, 100 * MINUTE])
         self.fault_rate, self.taken = self.random.choice([.005, .01, .03]), self.random.choice([.1, .25])
+        # In some, a queue goes, and its number is used again.
+        self.comes_and_goes = self.random.random() < .3
         self.gateway = Gateway(self, 0)
 
     def log(self, text, keys=None):
@@ -215,9 +217,11 @@ class World:
         elif kind < .75:
             self.is_full = True
         else:
-            pause = self.random.choice([10 * SECOND, 31 * SECOND, 70 * SECOND, 400 * SECOND, 20 * MINUTE])
-            self.log(f"{pause // SECOND} s pass")
-            self.time += pause
+            self.wait(self.random.choice([10 * SECOND, 31 * SECOND, 70 * SECOND, 400 * SECOND, 20 * MINUTE]))
+
+    def wait(self, pause):
+        self.log(f"{pause // SECOND} s pass")
+        self.time += pause
 
     # -- a run
 
@@ -274,13 +278,25 @@ class World:
                 return
         self.hurt("never at rest", None)
 
+    def come_and_go(self, name):
+        """A queue goes, and comes with its number. What clients and the store have of the first one is nothing of the second."""
+        self.faults = self.is_full = False
+        self.rest()
+        for kind, pause in (("remove", 400 * SECOND), ("create", 0)):
+            self.request(kind, name)
+            self.rest()
+            self.wait(pause)
+        self.faults = True
+
     def play(self, steps):
         self.request("create", "orders")
         if self.random.random() < .8:
             self.request("create", "dead")
         self.rest()
         self.faults = True
-        for _ in range(steps):
+        for step in range(steps):
+            if self.comes_and_goes and step == steps // 2:
+                self.come_and_go(self.random.choice(["orders", "dead"]))
             self.step()
         self.faults = self.is_full = False
         for pause in (0, 70 * SECOND, 70 * SECOND):
