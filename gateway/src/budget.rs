@@ -4,8 +4,15 @@
 use std::sync::atomic::{AtomicUsize, Ordering};
 use std::sync::Arc;
 
-/// So many bytes of a request count nothing: whoever sends large ones and never ends them keeps no ordinary one out.
-const FREE: usize = 16 << 10;
+/// So many bytes of a request count with its connection, of which there is a bound as well.
+const FREE: usize = 1 << 10;
+
+/// A request with no more bytes is a small one.
+const SMALL: usize = 16 << 10;
+
+/// Small ones may take more than the bound by this part of it: whoever sends large ones and never ends them keeps no ordinary one
+/// out.
+const RESERVE: usize = 4;
 
 /// The bound of what all requests keep in memory, and what they keep.
 #[derive(Clone, Debug)]
@@ -14,15 +21,20 @@ pub struct Budget {
     most: usize,
     /// So many bytes of each request count nothing.
     free: usize,
+    /// With no more bytes a request may be counted beyond `most`, up to `most_with_small`.
+    small: usize,
+    most_with_small: usize,
 }
 
 impl Budget {
+    /// All requests keep so many bytes at most, and small ones a quarter more.
     pub fn new(most: usize) -> Budget {
-        Budget::of(most, FREE)
+        Budget { small: SMALL, most_with_small: most.saturating_add(most / RESERVE), ..Budget::of(most, FREE) }
     }
 
+    /// The same for requests of any length, of each of which so many bytes count nothing.
     pub fn of(most: usize, free: usize) -> Budget {
-        Budget { used: Arc::default(), most, free }
+        Budget { used: Arc::default(), most, free, small: 0, most_with_small: most }
     }
 
     /// What a connection's request has of the budget: nothing yet.
@@ -48,7 +60,8 @@ impl Share {
     pub fn try_set(&self, length: usize) -> bool {
         let before = self.bytes.load(Ordering::Relaxed);
         let wanted = length.saturating_sub(self.budget.free);
-        if wanted > before && self.budget.used().saturating_add(wanted - before) > self.budget.most {
+        let most = if length <= self.budget.small { self.budget.most_with_small } else { self.budget.most };
+        if wanted > before && self.budget.used().saturating_add(wanted - before) > most {
             return false;
         }
         self.set(length);
@@ -92,6 +105,24 @@ mod tests {
         drop(second);
         assert_eq!(budget.used(), 7);
         drop(first);
+        assert_eq!(budget.used(), 0);
+    }
+
+    #[test]
+    fn large_requests_keep_no_small_one_out_and_many_small_ones_have_a_bound() {
+        let most = 64 << 20;
+        let budget = Budget::new(most);
+        let large = budget.share();
+        assert!(large.try_set(most) && !budget.share().try_set(SMALL + 1));
+        let small: Vec<Share> = (0..10_000).map(|_| budget.share()).collect();
+        let counted = small.iter().filter(|share| share.try_set(SMALL)).count();
+        assert!((1000..1200).contains(&counted) && budget.used() <= most + most / RESERVE, "{counted}");
+        // What counts with connections is there at all times, and what went back is there again.
+        assert!(budget.share().try_set(FREE) && !budget.share().try_set(SMALL));
+        drop(large);
+        let counted = small.iter().filter(|share| share.try_set(SMALL)).count();
+        assert!((5000..6000).contains(&counted) && budget.used() <= most + most / RESERVE, "{counted}");
+        drop(small);
         assert_eq!(budget.used(), 0);
     }
 }

@@ -2,7 +2,11 @@
 
 from __future__ import annotations
 
+import contextlib
 import json
+import os
+import re
+import signal
 import socket
 import time
 from collections.abc import Iterator
@@ -103,3 +107,45 @@ def test_one_large_message_that_is_gone_costs_others_nothing(served):
     assert [message["Body"] for message in call("ReceiveMessage", QueueUrl="q", MaxNumberOfMessages=10)["Messages"]] == ["small"]
     for client in polls:
         client.close()
+
+
+def peak(front) -> float:
+    """The most that was resident of the front, in MiB."""
+    status = Path(f"/proc/{front.process.pid}/status").read_text()
+    return int(re.search(r"VmHWM:\s+(\d+) kB", status)[1]) / 1024
+
+
+def send(url: str, body: bytes) -> socket.socket:
+    place = urlsplit(url)
+    sending = socket.create_connection((place.hostname, place.port), timeout=60)
+    head = (f"POST / HTTP/1.1\r\nhost: localhost\r\nx-amz-target: AmazonSQS.SendMessage\r\n"
+            f"content-type: application/x-amz-json-1.0\r\ncontent-length: {len(body)}\r\n\r\n")
+    sending.sendall(head.encode() + body)
+    return sending
+
+
+def status_of(sending: socket.socket) -> int:
+    with sending, sending.makefile("rb") as file:
+        return int(file.readline().split()[1])
+
+
+def test_what_a_front_keeps_of_requests_that_wait_is_what_counts(served):
+    """The gateway stands still, and bodies of some 54 MB wait for it, tried again and again."""
+    served.add_front("--request-memory", "64MiB")
+    call = ByJson(served.front.url)
+    call("CreateQueue", QueueName="q", Attributes={})
+    before = peak(served.front)
+    gateway = served.cluster.nodes[0].gateway()
+    os.kill(gateway, signal.SIGSTOP)
+    try:
+        body = json.dumps({"QueueUrl": "q", "MessageBody": "x" * 60_000}).encode()
+        sending = [send(served.front.url, body) for _ in range(900)]
+        time.sleep(3)
+    finally:
+        # Its node may have started another one meanwhile.
+        with contextlib.suppress(ProcessLookupError):
+            os.kill(gateway, signal.SIGCONT)
+    statuses = [status_of(one) for one in sending]
+    assert set(statuses) <= {200, 503} and statuses.count(200) > 700
+    # Each body is there once, in buffers that may be twice as large; each connection has its own.
+    assert peak(served.front) - before < 2 * 54 + 24, (before, peak(served.front))

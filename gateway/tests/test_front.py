@@ -5,13 +5,18 @@ from __future__ import annotations
 import http.client
 import itertools
 import json
+import re
 import signal
 import socket
 import ssl
+import struct
 import threading
 import time
+from collections.abc import Sequence
 from http.server import BaseHTTPRequestHandler, ThreadingHTTPServer
 from pathlib import Path
+from typing import Any
+from urllib.parse import urlsplit
 
 import pytest
 from botocore.auth import SigV4Auth
@@ -86,18 +91,60 @@ class Acting(ThreadingHTTPServer):
         return [one for one in self.heard if one[1] != "/"]
 
 
+class Deaf(threading.Thread):
+    """Stands in for a gateway that takes connections of calls, tells the time, and reads nothing of what is asked."""
+
+    def __init__(self) -> None:
+        super().__init__(daemon=True)
+        self.listener, self.begun = socket.create_server(("127.0.0.1", 0), backlog=256), time.monotonic()
+        self.connections = 0
+        self.start()
+
+    @property
+    def port(self) -> int:
+        return self.listener.getsockname()[1]
+
+    def run(self) -> None:
+        while True:
+            try:
+                connection, _ = self.listener.accept()
+            except OSError:
+                return
+            self.connections += 1
+            threading.Thread(target=self.tell, args=[connection], daemon=True).start()
+
+    def time(self) -> int:
+        return 1_000_000 + int(1000 * (time.monotonic() - self.begun))
+
+    def tell(self, connection: socket.socket) -> None:
+        head = b""
+        while not head.endswith(b"\r\n\r\n"):
+            head += connection.recv(1)
+        connection.sendall(b"HTTP/1.1 101 Switching Protocols\r\nConnection: upgrade\r\nUpgrade: hobbychair-calls-1\r\n"
+                           + f"X-Hobbychair-Time: {self.time()}\r\n\r\n".encode())
+        try:
+            while True:
+                connection.sendall(struct.pack("<IBBBQ", 11, 1, 18, 1, self.time()))
+                time.sleep(0.4)
+        except OSError:
+            connection.close()
+
+    def end(self) -> None:
+        self.listener.close()
+
+
 class World:
     """A cluster of which only etcd is there, and its front."""
 
     names = (f"front-{number}" for number in itertools.count())
 
-    def __init__(self, etcd: Etcd, *words: str) -> None:
+    def __init__(self, etcd: Etcd, *words: str, gateways: Sequence[Any] = ()) -> None:
         self.etcd, name = etcd, next(self.names)
         made = run("cluster", "create", "--cluster", name, "--etcd", etcd.urls[0], "--nodes", "2")
         assert made.returncode == 0, made.stderr
         key = f"hobbychair/{name}/cluster"
         self.root = f"hobbychair/{name}/{json.loads(etcd.read(key)[key])['incarnation']}"
-        self.gateways = [Acting("one"), Acting("two")]
+        self.gateways = list(gateways) or [Acting("one"), Acting("two")]
         for server, gateway in enumerate(self.gateways, 1):
             self.register(server, gateway.port)
         self.front = Started("--cluster", name, "--etcd", etcd.urls[0], *words)
@@ -376,3 +423,33 @@ def test_a_front_ends_in_good_order(world):
     world.gateways[0].answers.set()
     thread.join(5)
     assert answers[0][0] == 200 and world.front.process.wait(5) == 0
+
+
+def peak(front: Started) -> float:
+    """The most that was resident of the front, in MiB."""
+    status = Path(f"/proc/{front.process.pid}/status").read_text()
+    return int(re.search(r"VmHWM:\s+(\d+) kB", status)[1]) / 1024
+
+
+def test_what_waits_for_a_gateway_is_kept_once_however_often_it_is_asked(etcd):
+    """54 MB of bodies wait behind connections of calls that take nothing, and are each given up behind 2 s."""
+    deaf = Deaf()
+    world = World(etcd, "--request-memory", "64MiB", gateways=(deaf, Deaf()))
+    asking: list[socket.socket] = []
+    try:
+        world.head(1, 2)
+        wait(20, lambda: deaf.connections, "the front asks for no calls")
+        time.sleep(1)
+        before, address = peak(world.front), urlsplit(world.front.url)
+        body = b"Action=GetQueueAttributes&More=" + b"x" * 60_000
+        for _ in range(900):
+            asking.append(socket.create_connection((address.hostname, address.port), timeout=30))
+            asking[-1].sendall(b"POST /0/q HTTP/1.1\r\nHost: localhost\r\nContent-Length: %d\r\n\r\n" % len(body) + body)
+        tries = deaf.connections
+        wait(30, lambda: deaf.connections > tries + 4, "nothing is asked again")
+        # Each body is in one buffer, and each connection has one for what comes.
+        assert 54 < peak(world.front) - before < 2.4 * 54, (before, peak(world.front))
+    finally:
+        for connection in asking:
+            connection.close()
+        world.end()

@@ -96,6 +96,44 @@ def test_what_polls_are_handed_counts_before_it_is_handed():
         assert gateway.stop() == 0
 
 
+def test_small_requests_have_a_bound_together_and_large_ones_keep_none_out():
+    """Each of them is within the 16 KiB that large ones leave free, and there are many."""
+    gateway = Started("--request-memory", "64MiB", "--memory", "64MiB", "--no-pauses")
+    try:
+        call = ByJson(gateway.url)
+        call("CreateQueue", QueueName="q")
+
+        def unfinished(length: int) -> socket.socket:
+            """All of a request but its last byte, read by the gateway as far as it goes."""
+            address, port = gateway.url.removeprefix("http://").rsplit(":", 1)
+            connection = socket.create_connection((address, int(port)), timeout=60)
+            head = f"POST / HTTP/1.1\r\nHost: localhost\r\nX-Amz-Target: AmazonSQS.ListQueues\r\nContent-Length: {length}\r\n\r\n"
+            connection.sendall(head.encode() + b"{" + b" " * (length - 2))
+            return connection
+
+        large = [*at_once([lambda: unfinished(6 * MEBIBYTE)] * 10), unfinished(3_900_000)]
+        time.sleep(1)
+        with pytest.raises(Refused, match="ServiceUnavailable 503"):
+            call("SendMessage", QueueUrl="q", MessageBody="x" * 900_000)
+        call("SendMessage", QueueUrl="q", MessageBody="x" * 10_000)
+        small = [connection for _ in range(20) for connection in at_once([lambda: unfinished(16_000)] * 100)]
+        time.sleep(1)
+        # What is refused is answered at once.
+        poll, by_number = select.poll(), {connection.fileno(): connection for connection in small}
+        for number in by_number:
+            poll.register(number, select.POLLIN)
+        answered = [by_number[number] for number, _ in poll.poll(0)]
+        assert 400 < len(answered) < 1_600 and {status_of(connection) for connection in answered} == {503}
+        assert peak(gateway) < 64 + 2 * 80 + 64
+        call("SendMessage", QueueUrl="q", MessageBody="x")
+        for connection in [*large, *small]:
+            connection.close()
+        time.sleep(1)
+        call("SendMessage", QueueUrl="q", MessageBody="x" * 900_000)
+    finally:
+        assert gateway.stop() == 0
+
+
 def refused(gateway: Started, action: str, **members: Any) -> tuple[str, int, bytes]:
     status, headers, answer = post(gateway.url, json.dumps(members).encode(), {"X-Amz-Target": f"AmazonSQS.{action}", **JSON})
     assert status != 200

@@ -10,6 +10,7 @@ use hyper::{Body, Method, Request, Response, Uri, Version};
 use uuid::Uuid;
 
 use crate::calls::PassedOn;
+use crate::http::in_pieces;
 
 /// The name of a call, as SDKs give it: what has the same one is one call.
 static INVOCATION: HeaderName = HeaderName::from_static("amz-sdk-invocation-id");
@@ -62,9 +63,12 @@ pub struct Try {
     pub room: Option<usize>,
 }
 
+/// What a gateway is told of a try.
+pub type Said = Vec<(&'static HeaderName, HeaderValue)>;
+
 impl Try {
     /// What a gateway is told of it.
-    pub fn said(self) -> Vec<(&'static HeaderName, HeaderValue)> {
+    pub fn said(self) -> Said {
         let mut said = vec![(&UNTIL, HeaderValue::from(self.until))];
         if self.is_again {
             said.push((&AGAIN, HeaderValue::from_static("true")));
@@ -117,11 +121,17 @@ impl Asked {
         Asked { method: Method::GET, target, headers: HeaderMap::new(), body: Bytes::new() }
     }
 
+    /// A POST without headers.
+    #[cfg(test)]
+    pub fn plain(target: &'static str, body: Bytes) -> Asked {
+        Asked { method: Method::POST, target: PathAndQuery::from_static(target), headers: HeaderMap::new(), body }
+    }
+
     /// As it is asked at an address.
     pub fn at(&self, address: SocketAddr, tried: Option<Try>) -> Option<Request<Body>> {
         let authority = address.to_string();
         let uri = Uri::builder().scheme("http").authority(authority.as_str()).path_and_query(self.target.clone());
-        let mut request = Request::new(Body::from(self.body.clone()));
+        let mut request = Request::new(in_pieces(self.body.clone()));
         *request.method_mut() = self.method.clone();
         *request.uri_mut() = uri.build().ok()?;
         *request.version_mut() = Version::HTTP_11;
@@ -140,6 +150,12 @@ impl Asked {
     /// How many bytes its body has.
     pub fn bytes(&self) -> usize {
         self.body.len()
+    }
+
+    /// About how many bytes it has as it is passed on.
+    pub fn bytes_passed_on(&self) -> usize {
+        let of_header = |(name, value): (&HeaderName, &HeaderValue)| name.as_str().len() + value.len();
+        self.headers.iter().map(of_header).sum::<usize>() + self.target.as_str().len() + self.body.len()
     }
 
     pub fn is_head(&self) -> bool {

@@ -264,7 +264,7 @@ impl Visit {
             Err(unread) => return unread.response(protocol, Uuid::new_v4()),
         };
         let passed = match Asked::of(head, body, self.came) {
-            Some(asked) => self.front.passing.pass(&asked, receives, arrived, &self.share).await,
+            Some(asked) => self.front.passing.pass(&Arc::new(asked), receives, arrived, &self.share).await,
             None => Err(SqsError::InvalidParameterValue("A front can't pass this request on.".into())),
         };
         passed.unwrap_or_else(|error| refused(protocol, &error, Uuid::new_v4(), false))

@@ -209,7 +209,7 @@ impl Passing {
     /// Its bytes count by this share, beside those of the request. `receives`: it asks for messages.
     pub async fn pass(
         &self,
-        asked: &Asked,
+        asked: &Arc<Asked>,
         receives: bool,
         arrived: Instant,
         share: &Share,
@@ -264,7 +264,7 @@ impl Passing {
     async fn try_at(
         &self,
         acting: Acting,
-        asked: &Asked,
+        asked: &Arc<Asked>,
         room: &AnswerRoom<'_>,
         wanted: Wanted,
     ) -> Result<Response<Bytes>, Failed> {
@@ -278,18 +278,17 @@ impl Passing {
     async fn ask(
         &self,
         acting: Acting,
-        asked: &Asked,
+        asked: &Arc<Asked>,
         room: &AnswerRoom<'_>,
         Wanted { until, is_again, room: kept }: Wanted,
     ) -> Result<Response<Bytes>, Failed> {
         let stream = if asked.bytes() <= LONGEST_BODY { self.streams.to(acting).await? } else { None };
         let until = self.until(acting, until).await?;
         let tried = Try { until, is_again, room: kept };
-        let said = tried.said();
         let has_room = |bytes| room.has(bytes);
         let answered = async {
             match stream {
-                Some(stream) => self.learn_time(acting, stream.ask(asked.passed_on(&said), has_room).await?),
+                Some(stream) => self.learn_time(acting, stream.ask(asked, tried.said(), has_room).await?),
                 None => {
                     let request = asked.at(acting.address, Some(tried)).ok_or(Failed::Unwritable)?;
                     self.exchange(acting, request, has_room).await

@@ -1,6 +1,6 @@
 //! Calls that are passed on over one connection to the gateway that acts.
 
-use std::collections::HashMap;
+use std::collections::{BTreeMap, HashMap};
 use std::io;
 use std::sync::{Arc, Mutex, MutexGuard, PoisonError};
 use std::time::Duration;
@@ -19,10 +19,10 @@ use tokio::sync::mpsc::{unbounded_channel, UnboundedReceiver, UnboundedSender};
 use tokio::sync::{oneshot, Notify};
 use tokio::time::{interval, timeout, Instant, MissedTickBehavior};
 
-use super::headers::time_of;
+use super::headers::{time_of, Asked, Said};
 use super::passing::{Failed, LONGEST_ANSWER};
 use super::times::Times;
-use crate::calls::{self, FromGateway, PassedOn, FRAME_LIMIT, PROTOCOL};
+use crate::calls::{self, FromGateway, FRAME_LIMIT, PROTOCOL};
 
 /// A connection of calls has so long to begin.
 const BEGINNING: Duration = Duration::from_secs(2);
@@ -39,8 +39,8 @@ const WRITING: Duration = Duration::from_secs(2);
 /// A gateway whose system takes nothing for so long isn't asked any more: it isn't reached, though it may be heard.
 const UNACKNOWLEDGED: Duration = Duration::from_secs(2);
 
-/// So much room is kept for what is to be written.
-const MOST_KEPT: usize = 256 << 10;
+/// So much is written at once, and one call more. So much room is kept for it, too.
+const MOST_WRITTEN: usize = 256 << 10;
 
 /// A gateway that has no connections of calls is asked for one again so much later.
 const WITHOUT: Duration = Duration::from_secs(10);
@@ -167,9 +167,30 @@ struct State {
     /// The number of the last call.
     last: u64,
     waiting: HashMap<u64, Waiting>,
-    /// What is to be written.
+    /// Calls that aren't written yet, by their numbers, in whose order they are. A body is copied only when it is written: all
+    /// that wait count once, as they came.
+    calls: BTreeMap<u64, Unwritten>,
+    /// What else is to be written behind what was taken from here before.
     out: Vec<u8>,
     is_over: bool,
+}
+
+struct Unwritten {
+    asked: Arc<Asked>,
+    said: Said,
+}
+
+impl State {
+    /// The next calls that go with one write.
+    fn next_calls(&mut self) -> Vec<(u64, Unwritten)> {
+        let (mut taken, mut bytes) = (Vec::new(), 0);
+        while bytes < MOST_WRITTEN {
+            let Some(next) = self.calls.pop_first() else { break };
+            bytes += next.1.asked.bytes_passed_on();
+            taken.push(next);
+        }
+        taken
+    }
 }
 
 /// Who waits for the answer to a call, or for the rest of it.
@@ -190,16 +211,19 @@ struct Answered {
     rest: Option<UnboundedReceiver<Piece>>,
 }
 
-/// A call that was asked. Where this is dropped before its answer is whole, the gateway is told that nobody waits for it.
-struct Asked<'s> {
+/// A call that was asked. Where this is dropped before its answer is whole, the gateway is told that nobody waits for it, if it has
+/// heard of the call.
+struct Begun<'s> {
     stream: &'s Stream,
     number: u64,
 }
 
-impl Drop for Asked<'_> {
+impl Drop for Begun<'_> {
     fn drop(&mut self) {
         let mut state = lock(&self.stream.state);
-        if state.waiting.remove(&self.number).is_some() {
+        let waited = state.waiting.remove(&self.number).is_some();
+        let unwritten = state.calls.remove(&self.number);
+        if waited && unwritten.is_none() {
             calls::append_gone(&mut state.out, self.number);
             drop(state);
             self.stream.wake.notify_one();
@@ -217,10 +241,15 @@ impl Stream {
         *lock(&self.heard)
     }
 
-    /// The answer to a call. There has to be room for what was read of it.
-    pub async fn ask(&self, call: PassedOn<'_>, has_room: impl Fn(usize) -> bool) -> Result<Response<Bytes>, Failed> {
+    /// The answer to a request, of which this try is said. There has to be room for what was read of it.
+    pub async fn ask(
+        &self,
+        asked: &Arc<Asked>,
+        said: Said,
+        has_room: impl Fn(usize) -> bool,
+    ) -> Result<Response<Bytes>, Failed> {
         let (sender, answered) = oneshot::channel();
-        let asked = self.begin(call, sender).ok_or(Failed::Ended)?;
+        let begun = self.begin(Unwritten { asked: asked.clone(), said }, sender).ok_or(Failed::Ended)?;
         let Answered { head, first, rest } = answered.await.map_err(|_| Failed::Ended)?;
         if !has_room(first.len()) {
             return Err(Failed::NoRoom);
@@ -229,11 +258,11 @@ impl Stream {
             Some(rest) => whole(&first, rest, has_room).await?,
             None => first,
         };
-        drop(asked);
+        drop(begun);
         Ok(Response::from_parts(head, body))
     }
 
-    fn begin(&self, call: PassedOn<'_>, sender: oneshot::Sender<Answered>) -> Option<Asked<'_>> {
+    fn begin(&self, call: Unwritten, sender: oneshot::Sender<Answered>) -> Option<Begun<'_>> {
         let mut state = lock(&self.state);
         if state.is_over {
             return None;
@@ -241,10 +270,10 @@ impl Stream {
         state.last += 1;
         let number = state.last;
         state.waiting.insert(number, Waiting::Answer(sender));
-        calls::append_call(&mut state.out, number, call);
+        state.calls.insert(number, call);
         drop(state);
         self.wake.notify_one();
-        Some(Asked { stream: self, number })
+        Some(Begun { stream: self, number })
     }
 
     fn is_over(&self) -> bool {
@@ -255,10 +284,10 @@ impl Stream {
     fn end(&self) {
         let mut state = lock(&self.state);
         state.is_over = true;
-        let waiting = std::mem::take(&mut state.waiting);
+        let (waiting, calls) = (std::mem::take(&mut state.waiting), std::mem::take(&mut state.calls));
         drop(state);
         // Those who wait hear of it by this.
-        drop(waiting);
+        drop((waiting, calls));
         self.wake.notify_one();
     }
 
@@ -320,11 +349,16 @@ impl Stream {
         }
     }
 
-    /// Gives what is to be written for an empty buffer. Says whether nothing is to be written any more.
+    /// Appends what is to be written next. Says whether nothing is to be written any more.
     fn take_out(&self, out: &mut Vec<u8>) -> bool {
         let mut state = lock(&self.state);
-        std::mem::swap(&mut state.out, out);
-        state.is_over
+        out.append(&mut state.out);
+        let (calls, is_over) = (state.next_calls(), state.is_over);
+        drop(state);
+        for (number, Unwritten { asked, said }) in calls {
+            calls::append_call(out, number, asked.passed_on(&said));
+        }
+        is_over
     }
 
     async fn write(&self, mut writing: impl AsyncWrite + Unpin) -> io::Result<()> {
@@ -339,12 +373,17 @@ impl Stream {
                     tokio::task::yield_now().await;
                 }
             }
-            if self.take_out(&mut out) {
-                return Ok(());
+            loop {
+                if self.take_out(&mut out) {
+                    return Ok(());
+                }
+                if out.is_empty() {
+                    break;
+                }
+                calls::write(&mut writing, &out, WRITING).await?;
+                out.clear();
+                out.shrink_to(MOST_WRITTEN);
             }
-            calls::write(&mut writing, &out, WRITING).await?;
-            out.clear();
-            out.shrink_to(MOST_KEPT);
         }
     }
 }

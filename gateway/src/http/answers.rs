@@ -42,6 +42,24 @@ async fn write(mut rest: Bytes, mut sender: Sender, share: Arc<Share>) {
     }
 }
 
+/// A body of which a connection has a piece at a time: where it can't write the bytes as they stand, as by TLS, it copies them.
+/// Its length has to stand in a header.
+pub fn in_pieces(bytes: Bytes) -> Body {
+    if bytes.len() <= PIECE {
+        return Body::from(bytes);
+    }
+    let (mut sender, body) = Body::channel();
+    tokio::spawn(async move {
+        let mut rest = bytes;
+        while !rest.is_empty() {
+            if sender.send_data(rest.split_to(rest.len().min(PIECE))).await.is_err() {
+                return;
+            }
+        }
+    });
+    body
+}
+
 #[cfg(test)]
 mod tests {
     use super::*;
@@ -66,6 +84,20 @@ mod tests {
             written.extend(piece.unwrap());
         }
         assert_eq!((written, budget.used()), (bytes.to_vec(), 0));
+    }
+
+    #[tokio::test]
+    async fn a_large_body_in_pieces_is_whole_and_nobody_has_all_of_it() {
+        let bytes: Bytes = (0..3 * PIECE + 1).map(|place| place as u8).collect::<Vec<_>>().into();
+        for length in [0, PIECE, PIECE + 1, bytes.len()] {
+            let (mut body, mut whole) = (in_pieces(bytes.slice(..length)), Vec::new());
+            while let Some(piece) = body.data().await {
+                let piece = piece.unwrap();
+                assert!(piece.len() <= PIECE);
+                whole.extend(piece);
+            }
+            assert!(whole == bytes[..length], "{length}");
+        }
     }
 
     #[tokio::test]

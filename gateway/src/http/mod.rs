@@ -37,7 +37,7 @@ use crate::wire::requests::Action;
 use crate::wire::{self, Protocol, Reply};
 
 pub use address::{is_of_this_machine, Addresses};
-pub use answers::to_be_written;
+pub use answers::{in_pieces, to_be_written};
 pub use connections::{listen, shared, test_free, Door};
 pub use places::Places;
 pub use reading::{incoming, signable, Unread};

@@ -88,9 +88,9 @@ fn passing_by(follower: Follower) -> Passing {
     Passing::new(follower, None, Arc::new(Figures::new().unwrap()), Arc::default())
 }
 
-fn asked() -> Asked {
+fn asked() -> Arc<Asked> {
     let request = Request::get("/1/q").header("host", "queues").body(()).unwrap();
-    Asked::of(request.into_parts().0, Bytes::new(), Came { is_near: true, by_tls: false }).unwrap()
+    Arc::new(Asked::of(request.into_parts().0, Bytes::new(), Came { is_near: true, by_tls: false }).unwrap())
 }
 
 fn said<'h>(head: &'h str, name: &str) -> &'h str {

@@ -4,6 +4,7 @@ use hyper::http::uri::PathAndQuery;
 use hyper::Method;
 use tokio::io::{AsyncReadExt, AsyncWriteExt};
 use tokio::net::{TcpListener, TcpStream};
+use tokio::time::sleep;
 
 use super::*;
 use crate::calls::{Call, FromFront};
@@ -87,13 +88,13 @@ fn call(body: &'static str) -> Call {
     Call { method: Method::POST, target, headers: HeaderMap::new(), body: Bytes::from_static(body.as_bytes()) }
 }
 
-fn passed_on(call: &Call) -> PassedOn<'_> {
-    let Call { method, target, headers, body } = call;
-    PassedOn { method, target, headers, added: &[], body }
+/// The request that is passed on as that call.
+fn request(body: &'static str) -> Arc<Asked> {
+    Arc::new(Asked::plain("/1/q", Bytes::from_static(body.as_bytes())))
 }
 
 async fn asked(stream: &Stream, body: &'static str) -> Result<String, Failed> {
-    let answer = stream.ask(passed_on(&call(body)), |_| true).await?;
+    let answer = stream.ask(&request(body), Vec::new(), |_| true).await?;
     Ok(String::from_utf8(answer.into_body().to_vec()).unwrap())
 }
 
@@ -161,9 +162,53 @@ async fn who_does_not_wait_any_more_is_told_of_and_who_has_no_room_neither_waits
         gateway.answer(number, "four", false).await;
         assert_eq!(gateway.hear().await, Some(FromFront::Gone { number }));
     };
-    let (call, has_room) = (call("b"), |bytes| bytes < 4);
-    let (refused, ()) = tokio::join!(stream.ask(passed_on(&call), has_room), answering);
+    let (asked, has_room) = (request("b"), |bytes| bytes < 4);
+    let (refused, ()) = tokio::join!(stream.ask(&asked, Vec::new(), has_room), answering);
     assert!(matches!(refused, Err(Failed::NoRoom)));
+}
+
+#[tokio::test]
+async fn bodies_that_wait_for_a_gateway_that_reads_nothing_are_copied_only_as_they_are_written() {
+    let streams = streams();
+    let (stream, mut gateway, _) = open(&streams).await;
+    let body = Bytes::from(vec![7; calls::LONGEST_BODY]);
+    let all: Vec<_> = (0..200).map(|_| Arc::new(Asked::plain("/1/q", body.clone()))).collect();
+    let ask = |asked: &Arc<Asked>| {
+        let (stream, asked) = (stream.clone(), asked.clone());
+        tokio::spawn(async move { stream.ask(&asked, Vec::new(), |_| true).await.map(drop) })
+    };
+    let asking: Vec<_> = all.iter().map(ask).collect();
+    // None is answered, and the sockets between take only some.
+    sleep(Duration::from_millis(300)).await;
+    let (waiting, written, copied) = {
+        let state = lock(&stream.state);
+        (state.calls.len(), 200 - state.calls.len(), state.out.len())
+    };
+    assert!(waiting > 50 && copied < 1024, "{waiting} wait, {copied} bytes are copied");
+    // Who goes before that takes his body along, and the gateway never hears of him.
+    for task in asking {
+        task.abort();
+        assert!(task.await.unwrap_err().is_cancelled());
+    }
+    assert!(lock(&stream.state).calls.is_empty() && Arc::strong_count(&all[199]) == 1);
+    let (mut calls, mut gone) = (0, 0);
+    while calls < written || gone < written {
+        match gateway.hear().await {
+            Some(FromFront::Call { call, .. }) => {
+                assert_eq!(call.body, body);
+                calls += 1;
+            }
+            Some(FromFront::Gone { .. }) => gone += 1,
+            told => panic!("{told:?}"),
+        }
+    }
+    assert_eq!((calls, gone), (written, written));
+    let answering = async {
+        let (number, told) = gateway.hear_call().await;
+        assert_eq!((number, told), (201, call("next")));
+        gateway.answer(number, "yes", true).await;
+    };
+    assert_eq!(tokio::join!(asked(&stream, "next"), answering).0.unwrap(), "yes");
 }
 
 #[tokio::test]
