@@ -6,8 +6,6 @@
 use std::sync::Arc;
 use std::time::Duration;
 
-use uuid::Uuid;
-
 use crate::errors::SqsError;
 use crate::queues::ask::{Ask, StoreName};
 use crate::queues::book::{entries_of_facts, Entry, ProgramEntry, Removal};
@@ -206,7 +204,7 @@ async fn say_program(store: &Store, place: usize) -> Result<(), SqsError> {
 }
 
 fn program_entry(store: &Store, place: usize) -> ProgramEntry {
-    let secret = store.queues().secret(place).unwrap_or_else(Uuid::new_v4);
+    let secret = store.queues().secret_to_say(place);
     ProgramEntry { place, count: store.places().len() as u32, secret }
 }
 

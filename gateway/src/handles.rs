@@ -1,6 +1,9 @@
 //! Receipts, and the receipt handles that clients see.
 
-use std::str::FromStr;
+use std::hash::Hasher;
+
+use siphasher::sip::SipHasher24;
+use uuid::Uuid;
 
 use crate::errors::SqsError;
 
@@ -27,45 +30,63 @@ pub struct Handle {
     pub moment: u64,
 }
 
-const PARTS: usize = 4;
-const BYTES: usize = 8 * PARTS + 4;
+/// By this a gateway knows the handles that it has given out, or one that served these queues before it. Clients don't know it, so
+/// they can make none.
+#[derive(Clone, Copy, PartialEq, Eq)]
+pub struct HandleKey([u8; 16]);
+
+impl HandleKey {
+    pub fn of(secret: Uuid) -> HandleKey {
+        HandleKey(secret.into_bytes())
+    }
+
+    /// SipHash-2-4.
+    fn check(&self, numbers: &[u8]) -> [u8; 8] {
+        let mut hasher = SipHasher24::new_with_key(&self.0);
+        hasher.write(numbers);
+        hasher.finish().to_be_bytes()
+    }
+}
+
+/// A handle has so many numbers and a check, which is as long as one.
+const NUMBERS: usize = 4;
+const CHECKED: usize = 8 * NUMBERS;
+const BYTES: usize = CHECKED + 8;
+const LENGTH: usize = (8 * BYTES).div_ceil(6);
 
 impl Handle {
-    /// The handle as clients see it: four numbers and a checksum, in URL-safe base64.
+    /// The handle as clients see it: four numbers and a check of them by the key, in URL-safe base64.
     ///
     /// The moment is first, so that a handle begins with `A`: the AWS CLI takes one that begins with `-` for an option.
-    pub fn outward(&self) -> String {
+    pub fn outward(&self, key: &HandleKey) -> String {
         let mut bytes = [0; BYTES];
         let numbers = [self.moment, self.mark.0, self.receipt.sequence, self.receipt.ordinal];
         for (place, number) in numbers.iter().enumerate() {
             bytes[8 * place..8 * place + 8].copy_from_slice(&number.to_be_bytes());
         }
-        let sum = crc32fast::hash(&bytes[..8 * PARTS]);
-        bytes[8 * PARTS..].copy_from_slice(&sum.to_be_bytes());
+        let check = key.check(&bytes[..CHECKED]);
+        bytes[CHECKED..].copy_from_slice(&check);
         base64::encode_config(bytes, base64::URL_SAFE_NO_PAD)
     }
-}
 
-impl FromStr for Handle {
-    type Err = SqsError;
-
-    /// Reads a handle; any text that `outward` doesn't give is refused.
-    fn from_str(text: &str) -> Result<Handle, SqsError> {
+    /// Reads a handle; any text that `outward` doesn't give with this key is refused.
+    pub fn read(text: &str, key: &HandleKey) -> Result<Handle, SqsError> {
         let invalid = SqsError::ReceiptHandleIsInvalid;
-        let decoded = base64::decode_config(text, base64::URL_SAFE_NO_PAD);
-        let bytes: [u8; BYTES] = decoded.ok().and_then(|bytes| bytes.try_into().ok()).ok_or(invalid.clone())?;
+        let mut bytes = [0; BYTES];
+        // One text alone of this length stands for as many bytes.
+        let is_read =
+            text.len() == LENGTH && base64::decode_config_slice(text, base64::URL_SAFE_NO_PAD, &mut bytes) == Ok(BYTES);
+        if !is_read || key.check(&bytes[..CHECKED]) != bytes[CHECKED..] {
+            return Err(invalid);
+        }
         let number = |place: usize| {
             let mut own = [0; 8];
             own.copy_from_slice(&bytes[8 * place..8 * place + 8]);
             u64::from_be_bytes(own)
         };
-        let handle = Handle {
-            mark: Mark(number(1)),
-            receipt: Receipt { sequence: number(2), ordinal: number(3) },
-            moment: number(0),
-        };
-        let is_receipt = handle.receipt.sequence > 0 && handle.receipt.ordinal > 0;
-        (is_receipt && handle.outward() == text).then_some(handle).ok_or(invalid)
+        let receipt = Receipt { sequence: number(2), ordinal: number(3) };
+        let handle = Handle { mark: Mark(number(1)), receipt, moment: number(0) };
+        (receipt.sequence > 0 && receipt.ordinal > 0).then_some(handle).ok_or(invalid)
     }
 }
 
@@ -75,14 +96,16 @@ mod tests {
 
     use crate::seeded::{check, edits, spoilt};
 
+    const KEY: HandleKey = HandleKey([7; 16]);
+
     #[test]
     fn a_handle_that_was_changed_is_none() {
         let receipt = Receipt { sequence: 7, ordinal: 2 };
-        let text = Handle { mark: Mark(5), receipt, moment: 1_700_000_000_000 }.outward();
+        let text = Handle { mark: Mark(5), receipt, moment: 1_700_000_000_000 }.outward(&KEY);
         check(5000, edits(), |edits| {
             let spoilt = spoilt(text.as_bytes(), &edits);
             let spoilt = String::from_utf8_lossy(&spoilt);
-            assert!(spoilt == text || spoilt.parse::<Handle>().is_err(), "{spoilt}");
+            assert!(spoilt == text || Handle::read(&spoilt, &KEY).is_err(), "{spoilt}");
             Ok(())
         });
     }
@@ -91,7 +114,7 @@ mod tests {
     fn no_handle_begins_like_an_option_of_a_command_line() {
         for mark in 0..5000_u64 {
             let receipt = Receipt { sequence: mark + 1, ordinal: 1 };
-            let text = Handle { mark: Mark(mark << 50), receipt, moment: 1_700_000_000_000 + mark }.outward();
+            let text = Handle { mark: Mark(mark << 50), receipt, moment: 1_700_000_000_000 + mark }.outward(&KEY);
             assert!(text.starts_with('A'), "{text}");
         }
     }
@@ -100,8 +123,8 @@ mod tests {
     fn handles_come_back_and_spoilt_ones_do_not() {
         let receipt = Receipt { sequence: 7, ordinal: 2 };
         let handle = Handle { mark: Mark(u64::MAX - 5), receipt, moment: 1_700_000_000_000 };
-        let text = handle.outward();
-        assert_eq!(text.parse(), Ok(handle));
+        let text = handle.outward(&KEY);
+        assert_eq!((Handle::read(&text, &KEY), text.len()), (Ok(handle), LENGTH));
         let spoilt = [
             String::new(),
             "x".into(),
@@ -109,10 +132,45 @@ mod tests {
             format!("ä{text}"),
             text[..text.len() - 1].to_string(),
             format!("{text}A"),
+            format!("{text}=="),
+            format!("{}=", &text[..text.len() - 1]),
             text.to_uppercase(),
         ];
         for bad in spoilt {
-            assert_eq!(bad.parse::<Handle>(), Err(SqsError::ReceiptHandleIsInvalid), "{bad}");
+            assert_eq!(Handle::read(&bad, &KEY), Err(SqsError::ReceiptHandleIsInvalid), "{bad}");
         }
+        // The last sign has bits that say nothing.
+        let signs = b"ABCDEFGHIJKLMNOPQRSTUVWXYZabcdefghijklmnopqrstuvwxyz0123456789-_";
+        let with_last = |sign: &u8| format!("{}{}", &text[..text.len() - 1], *sign as char);
+        assert_eq!(signs.iter().filter(|sign| Handle::read(&with_last(sign), &KEY).is_ok()).count(), 1);
+    }
+
+    #[test]
+    fn who_has_no_key_makes_no_handle_of_those_that_he_was_given() {
+        let receipt = Receipt { sequence: 7, ordinal: 2 };
+        let handle = Handle { mark: Mark(5), receipt, moment: 1_700_000_000_000 };
+        let next = Handle { receipt: Receipt { sequence: 8, ordinal: 1 }, ..handle };
+        let (given, wanted) = (handle.outward(&KEY), next.outward(&KEY));
+        let bytes = |text: &str| base64::decode_config(text, base64::URL_SAFE_NO_PAD).unwrap();
+        let forged = |check: &[u8]| {
+            let forged = [&bytes(&wanted)[..CHECKED], check].concat();
+            Handle::read(&base64::encode_config(forged, base64::URL_SAFE_NO_PAD), &KEY)
+        };
+        assert_eq!(forged(&bytes(&wanted)[CHECKED..]), Ok(next));
+        // Neither the check of another handle, nor one that needs no key, nor that of another key.
+        let sum = crc32fast::hash(&bytes(&wanted)[..CHECKED]).to_be_bytes();
+        let other = bytes(&next.outward(&HandleKey([8; 16])));
+        for check in [&bytes(&given)[CHECKED..], &sum, &[&sum[..], &sum].concat(), &[0; 8], &other[CHECKED..]] {
+            assert_eq!(forged(check), Err(SqsError::ReceiptHandleIsInvalid));
+        }
+    }
+
+    #[test]
+    fn the_check_is_that_of_siphash_2_4() {
+        // The first and the last of the vectors of its authors: of no bytes, and of 0 to 62.
+        let key = HandleKey(std::array::from_fn(|place| place as u8));
+        let bytes: Vec<u8> = (0..63).collect();
+        assert_eq!(key.check(&[]), 0x726f_db47_dd0e_0e31_u64.to_be_bytes());
+        assert_eq!(key.check(&bytes), 0x958a_324c_eb06_4572_u64.to_be_bytes());
     }
 }

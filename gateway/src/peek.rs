@@ -238,8 +238,7 @@ impl Page {
         self.bytes += envelope.len();
         let receipt = Receipt { sequence, ordinal: 0 };
         let handed = Handed { receipt, count, moment: 0, first, group, envelope };
-        let mut message =
-            ReceivedMessage { receipt_handle: HANDLE.into(), ..show(queue, &handed, &Shown::all(), owner)? };
+        let mut message = show(queue, &handed, &Shown::all(), (owner, HANDLE.into()))?;
         if wanted.shows_in_flight {
             message.attributes.push(("IsVisible", (visibility != Visibility::InFlight).to_string()));
         }

@@ -12,7 +12,9 @@ import tempfile
 import urllib.error
 import urllib.parse
 import urllib.request
+import uuid
 import xml.etree.ElementTree
+import zlib
 from pathlib import Path
 from typing import Any
 
@@ -324,6 +326,47 @@ class ByQuery:
             else:
                 found[child.tag] = {"true": True, "false": False}.get(child.text, child.text or "")
         return found
+
+
+def known_again(journal: Path, queue: str, handle: str) -> str:
+    """The handle that this version gives for the handing that one of an earlier version names: its check is made by the secret that
+    the book of the queue's program has."""
+    programs = re.findall(rb'"program":\{"place":(\d+),"count":(\d+),"secret":"([0-9a-f-]{36})"', dumped(journal))
+    place = zlib.crc32(queue.encode()) % int(programs[-1][1])
+    (*_, secret) = (secret for own, _, secret in programs if int(own) == place)
+    numbers = base64.urlsafe_b64decode(handle + "=" * (-len(handle) % 4))[:32]
+    check = siphash(uuid.UUID(secret.decode()).bytes, numbers)
+    return base64.urlsafe_b64encode(numbers + check.to_bytes(8, "big")).rstrip(b"=").decode()
+
+
+def siphash(key: bytes, data: bytes) -> int:
+    """SipHash-2-4, as its authors describe it."""
+    mask = (1 << 64) - 1
+    words = [int.from_bytes(key[place:place + 8], "little") for place in (0, 8)]
+    v = [start ^ words[place % 2] for place, start in enumerate(
+        (0x736F6D6570736575, 0x646F72616E646F6D, 0x6C7967656E657261, 0x7465646279746573))]
+
+    def turned(word: int, by: int) -> int:
+        return (word << by | word >> 64 - by) & mask
+
+    def rounds(count: int) -> None:
+        for _ in range(count):
+            v[0], v[2] = v[0] + v[1] & mask, v[2] + v[3] & mask
+            v[1], v[3] = turned(v[1], 13) ^ v[0], turned(v[3], 16) ^ v[2]
+            v[0] = turned(v[0], 32)
+            v[2], v[0] = v[2] + v[1] & mask, v[0] + v[3] & mask
+            v[1], v[3] = turned(v[1], 17) ^ v[2], turned(v[3], 21) ^ v[0]
+            v[2] = turned(v[2], 32)
+
+    whole = data + b"\0" * (7 - len(data) % 8) + bytes([len(data) % 256])
+    for place in range(0, len(whole), 8):
+        word = int.from_bytes(whole[place:place + 8], "little")
+        v[3] ^= word
+        rounds(2)
+        v[0] ^= word
+    v[2] ^= 0xFF
+    rounds(4)
+    return v[0] ^ v[1] ^ v[2] ^ v[3]
 
 
 def handing(message: dict[str, Any]) -> int:

@@ -155,7 +155,7 @@ def repeats(journaled: Journaled) -> list[str]:
 
 
 def answers(journaled: Journaled) -> dict[str, Any]:
-    """All that is told of the queues of the stored journal."""
+    """All that is told of the queues of the stored journal, but for receipt handles, which each gateway makes with a secret of its own."""
     names = [url.rsplit("/", 1)[-1] for url in journaled.call("ListQueues")["QueueUrls"]]
     told: dict[str, Any] = {"repeats": repeats(journaled)}
     for name in names:
@@ -164,6 +164,7 @@ def answers(journaled: Journaled) -> dict[str, Any]:
         messages = journaled.receive(name, VisibilityTimeout=0)
         for message in messages:
             message["Body"] = message["Body"][:20]
+            del message["ReceiptHandle"]
         told[name] = {"attributes": attributes, "tags": tags, "messages": messages}
     return told
 

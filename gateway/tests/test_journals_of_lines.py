@@ -19,7 +19,7 @@ from pathlib import Path
 
 import pytest
 
-from started import ByJson, Refused, Started, command, environment, files_of, program, run
+from started import ByJson, Refused, Started, command, environment, files_of, known_again, program, run
 from test_disks import fill
 from test_standard import sent_by_call
 
@@ -130,7 +130,11 @@ def test_all_is_there_at_this_start_and_at_later_ones(of_lines):
 
 def test_receipts_repeats_and_numbers_go_on(of_lines):
     of_lines.start()
-    call, handles = of_lines.call, TOLD["handles"]
+    call = of_lines.call
+    queues = {"changed": "q.fifo", "m1": "q.fifo", "s": "s"}
+    handles = {name: known_again(of_lines.journal, queue, TOLD["handles"][name]) for name, queue in queues.items()}
+    with pytest.raises(Refused, match="ReceiptHandleIsInvalid"):
+        call("DeleteMessage", QueueUrl="s", ReceiptHandle=TOLD["handles"]["s"])
     for body, sent in TOLD["sent"].items():
         again = call("SendMessage", QueueUrl="q.fifo", MessageBody=body, MessageGroupId="any", MessageDeduplicationId=body)
         assert (again["MessageId"], again["SequenceNumber"]) == (sent["MessageId"], sent["SequenceNumber"])

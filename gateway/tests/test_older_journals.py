@@ -19,7 +19,7 @@ from pathlib import Path
 import pytest
 
 from frames import HEAD, MARK, places
-from started import START, ByJson, Refused, Started, command, environment, handing, names_in_store, run
+from started import START, ByJson, Refused, Started, command, environment, handing, known_again, names_in_store, run
 from steered import SteeredCq
 from test_disks import fill
 from test_standard import sent_by_call
@@ -53,6 +53,12 @@ class Older:
     def delete(self, queue: str, handle: str) -> None:
         self.call("DeleteMessage", QueueUrl=queue, ReceiptHandle=handle)
 
+    def told(self, queue: str, body: str) -> str:
+        """The handle that the older gateway told, with a check of this version. As it was told it is none any more."""
+        with pytest.raises(Refused, match="ReceiptHandleIsInvalid"):
+            self.delete(queue, self.handles[body])
+        return known_again(self.journal, queue, self.handles[body])
+
 
 @pytest.fixture
 def older(tmp_path):
@@ -62,13 +68,14 @@ def older(tmp_path):
 
 
 def test_what_an_older_gateway_was_handed_counts_as_no_handing(older):
+    handle = older.told("q.fifo", "a")
     with pytest.raises(Refused, match="InvalidParameterValue"):
-        older.delete("q.fifo", older.handles["a"])
+        older.delete("q.fifo", handle)
     found = older.receive("q.fifo")
     told = {message["Body"]: (int(message["Attributes"]["ApproximateReceiveCount"]), handing(message)) for message in found}
     assert told == {"a": (2, 3), "b": (2, 3), "c": (1, 2), LARGE: (1, 2)}
     # Another handing came behind it, so this does nothing.
-    older.delete("q.fifo", older.handles["a"])
+    older.delete("q.fifo", handle)
     for message in found[1:]:
         older.delete("q.fifo", message["ReceiptHandle"])
     older.gateway.kill()
@@ -79,7 +86,7 @@ def test_what_an_older_gateway_was_handed_counts_as_no_handing(older):
 
 
 def test_a_handle_of_before_a_sweep_deletes_in_a_standard_queue(older):
-    older.delete("standard", older.handles["s"])
+    older.delete("standard", older.told("standard", "s"))
     (message,) = older.receive("standard", VisibilityTimeout=0)
     assert (message["Body"], message["Attributes"]["ApproximateReceiveCount"], handing(message)) == ("t", "2", 3)
     for _ in range(2):
@@ -260,7 +267,10 @@ def test_what_an_older_journal_says_of_queues_goes_to_the_store(tmp_path, passin
         older.gateway.kill()
     assert older.journal.with_name("journal.old.1").read_bytes() == older.old
     older.start()
-    older.call("DeleteMessage", QueueUrl="plain", ReceiptHandle=older.told["handle"])
+    handle = known_again(older.journal, "plain", older.told["handle"])
+    with pytest.raises(Refused, match="ReceiptHandleIsInvalid"):
+        older.call("DeleteMessage", QueueUrl="plain", ReceiptHandle=older.told["handle"])
+    older.call("DeleteMessage", QueueUrl="plain", ReceiptHandle=handle)
     for name in older.told["names"]:
         found = older.call("ReceiveMessage", QueueUrl=name, MaxNumberOfMessages=10, VisibilityTimeout=3,
                            AttributeNames=["All"]).get("Messages", [])
@@ -548,7 +558,8 @@ def test_a_journal_of_the_version_before_tells_the_same(tmp_path):
     assert [[one["MessageId"], one["SequenceNumber"]] for one in repeats] == told["repeats"]
     again = call("ReceiveMessage", QueueUrl="q.fifo", MaxNumberOfMessages=10, ReceiveRequestAttemptId="first").get("Messages", [])
     assert [one["MessageId"] for one in again] == told["attempt"]
-    call("ChangeMessageVisibility", QueueUrl="q.fifo", ReceiptHandle=told["handles"]["held"], VisibilityTimeout=0)
+    held = known_again(tmp_path / "journal", "q.fifo", told["handles"]["held"])
+    call("ChangeMessageVisibility", QueueUrl="q.fifo", ReceiptHandle=held, VisibilityTimeout=0)
     gateway.set_clock(told["moment"] + 1_000_000)
     for name in told["names"]:
         found = call("ReceiveMessage", QueueUrl=name, MaxNumberOfMessages=10, AttributeNames=["All"]).get("Messages", [])

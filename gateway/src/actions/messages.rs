@@ -111,7 +111,7 @@ impl Actions {
 
     pub(super) async fn delete(&self, name: &QueueName, handle: &str) -> Result<Performed, SqsError> {
         let queue = self.queue(name)?;
-        let answer = self.store.ask(&queue, delete_ask(&queue, handle)?).await;
+        let answer = self.store.ask(&queue, self.delete_ask(&queue, handle)?).await;
         nothing_of(handle, answer)?;
         Ok(Response::Nothing.into())
     }
@@ -126,16 +126,27 @@ impl Actions {
         self.answer_each(
             &queue,
             batch,
-            |_, handle| delete_ask(&queue, handle).map(Operation::Ask),
+            |_, handle| self.delete_ask(&queue, handle).map(Operation::Ask),
             |handle, answer| nothing_of(handle, answer),
             caller,
         )
         .await
     }
 
+    fn delete_ask(&self, queue: &Queue, handle: &str) -> Result<Ask, SqsError> {
+        let receipt = queue.receipt_of(handle, &self.store.handle_key(queue))?;
+        Ok(Ask::Delete { receipt, by_client: true })
+    }
+
+    fn change_ask(&self, queue: &Queue, change: &VisibilityChange) -> Result<Ask, SqsError> {
+        let receipt = queue.receipt_of(&change.handle, &self.store.handle_key(queue))?;
+        let visibility = change.visibility.unwrap_or_else(|| queue.state().entry.attributes.visibility_timeout());
+        Ok(Ask::ChangeVisibility { receipt, visibility, by: Changer::Client })
+    }
+
     pub(super) async fn change(&self, name: &QueueName, change: &VisibilityChange) -> Result<Performed, SqsError> {
         let queue = self.queue(name)?;
-        let answer = self.store.ask(&queue, change_ask(&queue, change)?).await;
+        let answer = self.store.ask(&queue, self.change_ask(&queue, change)?).await;
         nothing_of(&change.handle, answer)?;
         Ok(Response::Nothing.into())
     }
@@ -148,7 +159,7 @@ impl Actions {
     ) -> Result<Performed, SqsError> {
         let queue = self.queue(name)?;
         let result_of = |change: &VisibilityChange, answer| nothing_of(&change.handle, answer);
-        let operation_of = |_: &str, change: &VisibilityChange| change_ask(&queue, change).map(Operation::Ask);
+        let operation_of = |_: &str, change: &VisibilityChange| self.change_ask(&queue, change).map(Operation::Ask);
         self.answer_each(&queue, batch, operation_of, result_of, caller).await
     }
 
@@ -218,16 +229,6 @@ fn no_answer() -> SqsError {
 /// What a delete or a change tells: nothing, or an error that names its handle.
 fn nothing_of(handle: &str, answer: Answer) -> Result<Option<Sent>, SqsError> {
     answer.map(|_| None).map_err(|error| error.about_handle(handle))
-}
-
-fn delete_ask(queue: &Queue, handle: &str) -> Result<Ask, SqsError> {
-    Ok(Ask::Delete { receipt: queue.receipt_of(handle)?, by_client: true })
-}
-
-fn change_ask(queue: &Queue, change: &VisibilityChange) -> Result<Ask, SqsError> {
-    let receipt = queue.receipt_of(&change.handle)?;
-    let visibility = change.visibility.unwrap_or_else(|| queue.state().entry.attributes.visibility_timeout());
-    Ok(Ask::ChangeVisibility { receipt, visibility, by: Changer::Client })
 }
 
 /// The MD5s are of what this send carried, also where the message is one that was sent before.

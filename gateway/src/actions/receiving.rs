@@ -90,7 +90,9 @@ impl Actions {
 
     async fn received(&self, queue: &Arc<Queue>, handed: Vec<Handed>, shown: &Shown) -> Result<Performed, SqsError> {
         let handed = parts::complete(&self.store, handed).await?;
-        let shown = handed.iter().map(|one| show(queue, one, shown, &self.owner));
+        let key = self.store.handle_key(queue);
+        let handle_of = |one: &Handed| Handle { mark: queue.mark, receipt: one.receipt, moment: one.moment };
+        let shown = handed.iter().map(|one| show(queue, one, shown, (&self.owner, handle_of(one).outward(&key))));
         let messages = shown.collect::<Result<_, _>>()?;
         let receipts = handed.iter().map(|one| one.receipt).collect();
         let handed = (!handed.is_empty()).then(|| (queue.clone(), receipts));
@@ -98,12 +100,16 @@ impl Actions {
     }
 }
 
-/// A message as it is told: what of it was asked for.
-pub fn show(queue: &Queue, handed: &Handed, shown: &Shown, owner: &Owner) -> Result<ReceivedMessage, SqsError> {
+/// A message as it is told: what of it was asked for, and this handle.
+pub fn show(
+    queue: &Queue,
+    handed: &Handed,
+    shown: &Shown,
+    (owner, receipt_handle): (&Owner, String),
+) -> Result<ReceivedMessage, SqsError> {
     let (metadata, body) = read_envelope(&handed.envelope)
         .ok_or_else(|| SqsError::InternalFailure("The store has a message in no form.".into()))?;
     let id = metadata.id_at(queue.mark, handed.receipt.sequence);
-    let handle = Handle { mark: queue.mark, receipt: handed.receipt, moment: handed.moment };
     let system = shown.system().iter();
     let with_name =
         |one: &SystemAttribute| Some((one.name(), value_of(*one, queue.name.kind(), handed, &metadata, owner)?));
@@ -112,7 +118,7 @@ pub fn show(queue: &Queue, handed: &Handed, shown: &Shown, owner: &Owner) -> Res
     let message_attributes: MessageAttributes = wanted.collect();
     Ok(ReceivedMessage {
         message_id: id.to_string(),
-        receipt_handle: handle.outward(),
+        receipt_handle,
         md5_of_body: md5_of_text(body),
         body: body.into(),
         attributes,

@@ -21,7 +21,7 @@ use uuid::Uuid;
 use crate::clock::Moment;
 use crate::delays::Alarms;
 use crate::errors::SqsError;
-use crate::handles::{Handle, Mark, Receipt};
+use crate::handles::{Handle, HandleKey, Mark, Receipt};
 use crate::limits::STORED_NAME_BYTES;
 use crate::lines::StoreReply;
 use crate::messages::{message_id, own_id};
@@ -48,6 +48,8 @@ pub struct Queue {
     /// Whoever has the queue has its name in the store.
     in_use: InUse,
     state: Mutex<State>,
+    /// The key of its handles, once one was given out or shown.
+    handle_key: OnceLock<HandleKey>,
     /// Told when something happened that can open a group.
     pub opened: Notify,
     pub polls: Polls,
@@ -65,6 +67,7 @@ impl Queue {
             mark: Mark(entry.mark),
             in_use: InUse::default(),
             state: Mutex::new(State::new(entry)),
+            handle_key: OnceLock::new(),
             opened: Notify::new(),
             polls: Polls::default(),
             delays: Mutex::new(None),
@@ -130,9 +133,9 @@ impl Queue {
         self.state.lock().unwrap_or_else(PoisonError::into_inner)
     }
 
-    /// The receipt of a handle that was given out for this queue.
-    pub fn receipt_of(&self, handle: &str) -> Result<Receipt, SqsError> {
-        let handle: Handle = handle.parse()?;
+    /// The receipt of a handle that was given out for this queue with this key.
+    pub fn receipt_of(&self, handle: &str, key: &HandleKey) -> Result<Receipt, SqsError> {
+        let handle = Handle::read(handle, key)?;
         if handle.mark != self.mark {
             return Err(SqsError::ReceiptHandleIsInvalid);
         }
@@ -158,6 +161,8 @@ pub struct Queues {
     parts: Parts,
     /// Of programs that keep their entries themselves, by their places.
     secrets: Mutex<HashMap<usize, Uuid>>,
+    /// What books are to say of programs of which none says a secret yet.
+    new_secret: OnceLock<Uuid>,
     /// Queues that tasks have moved messages out of, by their marks, and the places of the programs that have them.
     tasked: Mutex<HashMap<u64, (usize, Weak<Queue>)>>,
     alarms: Alarms,
@@ -403,6 +408,16 @@ impl Queues {
     /// The secret of the program at this place, if a book says it.
     pub fn secret(&self, place: usize) -> Option<Uuid> {
         self.secrets().get(&place).copied()
+    }
+
+    /// The same, or the one that its book is to say.
+    pub fn secret_to_say(&self, place: usize) -> Uuid {
+        self.secret(place).unwrap_or_else(|| *self.new_secret.get_or_init(Uuid::new_v4))
+    }
+
+    /// The key of a queue's handles: the same one for all gateways that have what the books say.
+    pub fn handle_key(&self, queue: &Queue, place: impl FnOnce() -> usize) -> HandleKey {
+        *queue.handle_key.get_or_init(|| HandleKey::of(self.secret_to_say(place())))
     }
 
     fn tasked(&self) -> MutexGuard<'_, HashMap<u64, (usize, Weak<Queue>)>> {

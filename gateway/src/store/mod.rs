@@ -22,7 +22,7 @@ use crate::budget::Share;
 use crate::clock::{Clock, Moment};
 use crate::errors::SqsError;
 use crate::frames;
-use crate::handles::{Mark, Receipt};
+use crate::handles::{HandleKey, Mark, Receipt};
 use crate::queues::ask::{Ask, Cause, Handed, Outcome, PartsAsk, Reach, StoreName, TableChange};
 use crate::queues::book::Entry;
 use crate::queues::shards::Shards;
@@ -272,6 +272,11 @@ impl Store {
     pub fn begin_changes(&self, queue: &Arc<Queue>, changes: Vec<TableChange>) -> impl Future<Output = Answers> + Send {
         let operations = changes.into_iter().map(Operation::Change).collect();
         self.begin(self.place_of(&queue.name), Some(queue.clone()), operations)
+    }
+
+    /// The key of this queue's handles.
+    pub fn handle_key(&self, queue: &Queue) -> HandleKey {
+        self.queues.handle_key(queue, || self.place_of(&queue.name))
     }
 
     /// By what the copies that come to this queue are known, where nothing but the store says which there were.
