@@ -218,18 +218,18 @@ fn target_of(
     let source = || queue.state().source_of(sequence).map(|source| QueueName::clone(&source));
     let target = task.destination.clone().or_else(source);
     let target = target.ok_or(Failure::Ends("CouldNotDetermineMessageSource"))?;
-    if !may_move_to(rights, task, &target) {
+    if !may_move(rights, task, &queue.name, &target) {
         return Err(Failure::Ends("AccessDenied"));
     }
     store.queues().find(&target).ok_or(Failure::Ends("AWS.SimpleQueueService.NonExistentQueue"))
 }
 
-/// Whether the key that started a task allows this target, as its file says now.
-fn may_move_to(rights: &Rights, task: &MoveTask, target: &QueueName) -> bool {
-    match (rights, &task.starter) {
-        (Some(keys), Some(starter)) => keys.allow(starter, Action::StartMessageMoveTask, target),
-        _ => true,
-    }
+/// Whether the key that started a task allows to move out of the one queue to the other, as its file says now.
+fn may_move(rights: &Rights, task: &MoveTask, source: &QueueName, target: &QueueName) -> bool {
+    let (Some(keys), Some(starter)) = (rights, &task.starter) else { return true };
+    let of_source = [Action::StartMessageMoveTask, Action::ReceiveMessage, Action::DeleteMessage];
+    of_source.into_iter().all(|action| keys.allow(starter, action, source))
+        && keys.allow(starter, Action::SendMessage, target)
 }
 
 #[cfg(test)]

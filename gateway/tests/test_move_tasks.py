@@ -3,6 +3,7 @@
 from __future__ import annotations
 
 import json
+import signal
 import random
 import socket
 import threading
@@ -232,6 +233,57 @@ def test_a_destination_is_within_what_a_key_allows(tmp_path):
         assert (status, error["__type"].split("#")[1]) == (403, "AccessDeniedException")
     status, started = call("B", "StartMessageMoveTask", SourceArn=arn("b-1.fifo"), DestinationArn=arn("b-2.fifo"))
     assert status == 200 and started["TaskHandle"]
+    assert gateway.stop() == 0
+
+
+def test_a_task_needs_the_rights_to_what_it_does(tmp_path):
+    """Those to receive and delete there, and to send where the messages go. Others' queues aren't named."""
+    keys = tmp_path / "keys.toml"
+    start, source = "StartMessageMoveTask", ["ReceiveMessage", "DeleteMessage", "GetQueueAttributes"]
+    allowed = {"A": None, "start": [start], "take": [start, *source], "send": [start, "SendMessage"],
+               "all": [start, "SendMessage", *source]}
+    allowed |= {f"no-{one}": [start, "SendMessage", *(other for other in source if other != one)] for one in source}
+    row = '[[key]]\naccess_key = "{0}"\nsecret = "the secret of {0}"\n'
+
+    def write() -> None:
+        rows = [row.format(name) + (f"actions = {json.dumps(actions)}\n" if actions else "") for name, actions in allowed.items()]
+        keys.write_text("\n".join([*rows, row.format("L") + 'queues = ["dead"]\n']))
+
+    write()
+    gateway = Started("--credentials", str(keys))
+
+    def call(key: str, action: str, **members) -> tuple[int, dict[str, Any]]:
+        headers = {"X-Amz-Target": f"AmazonSQS.{action}", "Content-Type": "application/x-amz-json-1.0"}
+        request = AWSRequest("POST", gateway.url + "/", headers, json.dumps(members).encode())
+        SigV4Auth(Credentials(key, f"the secret of {key}"), "sqs", "us-east-1").add_auth(request)
+        status, _, body = post(request.url, request.data, dict(request.headers))
+        return status, json.loads(body)
+
+    dead, more = "dead", {"VisibilityTimeout": "0", "RedrivePolicy": policy("dead")}
+    for name, attributes in ((dead, {}), ("q", more), ("other", {})):
+        assert call("A", "CreateQueue", QueueName=name, Attributes=attributes)[0] == 200
+    for _ in range(3):
+        assert call("A", "SendMessage", QueueUrl=dead, MessageBody="of the dead-letter queue")[0] == 200
+    lacks = {"start": "receivemessage", "take": "sendmessage", "send": "receivemessage"}
+    lacks |= {f"no-{one}": one.lower() for one in source}
+    for key, action in lacks.items():
+        for destination in ({}, {"DestinationArn": arn("other")}):
+            status, error = call(key, start, SourceArn=arn(dead), **destination)
+            assert (status, error["__type"].split("#")[1]) == (403, "AccessDeniedException"), (key, error)
+            assert f"sqs:{action}" in error["message"], (key, error)
+    assert int(call("A", "GetQueueAttributes", QueueUrl=dead, AttributeNames=["All"])[1]["Attributes"]["ApproximateNumberOfMessages"]) == 3
+    status, started = call("all", start, SourceArn=arn(dead), DestinationArn=arn("other"), MaxNumberOfMessagesPerSecond=1)
+    assert status == 200 and started["TaskHandle"]
+    (told,) = call("A", "ListMessageMoveTasks", SourceArn=arn(dead))[1]["Results"]
+    assert told["DestinationArn"] == arn("other")
+    (told,) = call("L", "ListMessageMoveTasks", SourceArn=arn(dead))[1]["Results"]
+    assert "DestinationArn" not in told and told["SourceArn"] == arn(dead)
+    # A key that may send no more moves no more.
+    allowed["all"] = [start, *source]
+    write()
+    gateway.process.send_signal(signal.SIGHUP)
+    task = lambda: call("A", "ListMessageMoveTasks", SourceArn=arn(dead))[1]["Results"][0]
+    assert wait_for(lambda: task()["Status"] == "FAILED") and task()["FailureReason"] == "AccessDenied"
     assert gateway.stop() == 0
 
 

@@ -211,7 +211,7 @@ impl Actions {
             Request::RemovePermission { queue, label } => self.remove_permission(&queue, &label, caller).await,
             Request::StartMessageMoveTask { start } => self.start_move(start, caller).await,
             Request::CancelMessageMoveTask { handle } => self.cancel_move(handle.as_ref(), caller).await,
-            Request::ListMessageMoveTasks { source, most } => self.list_moves(source.as_ref(), most),
+            Request::ListMessageMoveTasks { source, most } => self.list_moves(source.as_ref(), most, caller),
         }
     }
 }

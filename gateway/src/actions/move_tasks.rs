@@ -20,6 +20,9 @@ use crate::wire::Response;
 /// What tells the digests of ids of tasks from all others by the same secret.
 const TASK: &[u8] = b"task";
 
+/// What a task does to the queue out of which it moves messages (Developer Guide, "Amazon SQS API permissions").
+const OF_SOURCE: [Action; 3] = [Action::ReceiveMessage, Action::DeleteMessage, Action::GetQueueAttributes];
+
 fn no_resource(parameter: &str) -> SqsError {
     SqsError::ResourceNotFound(format!("The resource that you specified for the {parameter} parameter doesn't exist."))
 }
@@ -34,6 +37,9 @@ impl Actions {
     /// of the last tasks is told that one's handle.
     pub(super) async fn start_move(&self, start: StartMove, caller: &Caller) -> Result<Performed, SqsError> {
         let queue = self.queue_of_arn(start.source.as_ref(), "SourceArn")?;
+        for action in OF_SOURCE {
+            self.test_right(caller, action, &queue.name)?;
+        }
         let _locked = self.lock_of(&queue.name).lock().await;
         let id_of_call = self.id_of_call(&queue, caller);
         if let Some(id) = id_of_call.filter(|id| find(&queue, *id).is_some()) {
@@ -105,14 +111,22 @@ impl Actions {
         Some(Builder::from_random_bytes(front).into_uuid())
     }
 
-    /// Messages go back to where they came from: to none of these, unless the caller's key allows all. The refusal names
-    /// no queue that the key doesn't show.
+    /// Refuses what the caller's key doesn't allow of a queue that it shows.
+    fn test_right(&self, caller: &Caller, action: Action, name: &QueueName) -> Result<(), SqsError> {
+        match &caller.identity {
+            Some(identity) if !identity.may(action, Some(name)) => Err(self.denied(identity, action, Some(name))),
+            _ => Ok(()),
+        }
+    }
+
+    /// Messages go back to where they came from: to none of these, unless the caller's key allows to send to all. The refusal
+    /// names no queue that the key doesn't show.
     fn test_sources(&self, sources: &[Arc<Queue>], caller: &Caller) -> Result<(), SqsError> {
         match &caller.identity {
             Some(identity) if !sources.iter().all(|source| identity.sees(&source.name)) => {
                 Err(self.denied(identity, Action::StartMessageMoveTask, None))
             }
-            _ => Ok(()),
+            _ => sources.iter().try_for_each(|source| self.test_right(caller, Action::SendMessage, &source.name)),
         }
     }
 
@@ -123,6 +137,7 @@ impl Actions {
             }
         }
         let name = self.queue_of_arn(arn, "DestinationArn")?.name.clone();
+        self.test_right(caller, Action::SendMessage, &name)?;
         if name == *source {
             let message = "Source queue arn and destination queue arn cannot be the same.";
             return Err(SqsError::InvalidParameterValue(message.into()));
@@ -158,22 +173,28 @@ impl Actions {
         Ok(Response::Moved(moved).into())
     }
 
-    /// The last tasks of a queue, the newest first.
-    pub(super) fn list_moves(&self, source: Option<&QueueArn>, most: u32) -> Result<Performed, SqsError> {
+    /// The last tasks of a queue, the newest first. Queues that the caller's key doesn't show aren't named.
+    pub(super) fn list_moves(
+        &self,
+        source: Option<&QueueArn>,
+        most: u32,
+        caller: &Caller,
+    ) -> Result<Performed, SqsError> {
         let queue = self.queue_of_arn(source, "SourceArn")?;
         let state = queue.state();
         let newest = state.tasks().iter().rev().take(most as usize);
-        let listed = newest.map(|task| self.listed(&queue.name, task)).collect();
+        let listed = newest.map(|task| self.listed(&queue.name, task, caller)).collect();
         Ok(Performed::of_tables(Response::MoveTasks(listed)))
     }
 
-    fn listed(&self, queue: &QueueName, task: &MoveTask) -> ListedTask {
+    fn listed(&self, queue: &QueueName, task: &MoveTask, caller: &Caller) -> ListedTask {
         let is_running = task.status == Status::Running;
+        let is_shown = |name: &&QueueName| caller.identity.as_ref().map_or(true, |identity| identity.sees(name));
         ListedTask {
             task_handle: is_running.then(|| TaskHandle { id: task.id, queue: queue.clone() }.outward()),
             status: task.status.name(),
             source_arn: self.owner.arn(queue.as_str()),
-            destination_arn: task.destination.as_ref().map(|name| self.owner.arn(name.as_str())),
+            destination_arn: task.destination.as_ref().filter(is_shown).map(|name| self.owner.arn(name.as_str())),
             rate: task.rate,
             moved: task.moved,
             to_move: task.to_move,
