@@ -1,21 +1,22 @@
 //! The groups of a FIFO queue, in the order in which the store hands them out. They are kept where it has to be known which
 //! messages are next.
 
-use std::collections::hash_map::DefaultHasher;
+use std::collections::hash_map::RandomState;
 use std::collections::{BTreeMap, BTreeSet, HashMap};
-use std::hash::{Hash, Hasher};
+use std::hash::BuildHasher;
+use std::sync::OnceLock;
 
 use crate::clock::Moment;
 
-/// What stands for a group's id in the tables.
+/// What stands for a group's id in the tables: a hash with a key that each process draws. So nobody can look for two groups that are
+/// one here.
 #[derive(Clone, Copy, Debug, PartialEq, Eq, Hash, PartialOrd, Ord)]
 pub struct Group(u64);
 
 impl Group {
     pub fn of(id: &str) -> Group {
-        let mut hasher = DefaultHasher::new();
-        id.hash(&mut hasher);
-        Group(hasher.finish())
+        static KEY: OnceLock<RandomState> = OnceLock::new();
+        Group(KEY.get_or_init(RandomState::new).hash_one(id))
     }
 }
 
@@ -99,5 +100,27 @@ impl Groups {
         self.look(now);
         let open = self.open.values().filter_map(|group| self.members.get(group));
         open.flat_map(|members| members.sequences.iter().copied())
+    }
+}
+
+#[cfg(test)]
+mod tests {
+    use super::*;
+
+    use std::collections::hash_map::DefaultHasher;
+    use std::hash::{Hash, Hasher};
+
+    /// Whoever knows the function looks for two groups with the same value by himself.
+    #[test]
+    fn nobody_else_can_tell_what_stands_for_a_group() {
+        let elsewhere = |id: &str| {
+            let mut hasher = DefaultHasher::new();
+            id.hash(&mut hasher);
+            Group(hasher.finish())
+        };
+        for id in ["a", "b", "group"] {
+            assert!(Group::of(id) == Group::of(id) && Group::of(id) != elsewhere(id), "{id}");
+        }
+        assert_ne!(Group::of("a"), Group::of("b"));
     }
 }
