@@ -56,6 +56,17 @@ impl CqError {
         self.has_said("OtherJournal")
     }
 
+    /// Whether a program ran, and is gone.
+    pub fn is_gone(&self) -> bool {
+        matches!(self, CqError::Gone(_))
+    }
+
+    /// Whether it said that something is wrong with its file, as `JournalDamaged` or `NotAJournal`: another program would say the
+    /// same.
+    pub fn is_of_journal(&self) -> bool {
+        self.has_said("Journal")
+    }
+
     fn has_said(&self, word: &str) -> bool {
         matches!(self, CqError::Gone(said) if said.contains(word))
     }

@@ -230,3 +230,51 @@ def test_cq_that_ends_at_every_request_ends_no_gateway(tmp_path):
     assert (refused.value.code, refused.value.status) == ("InternalFailure", 500)
     assert send("b")["SequenceNumber"].endswith("2")
     assert gateway.stop() == 0
+
+
+def ends_when_started(tmp_path, starts: range) -> Path:
+    """A `cq` that is killed before it has read its journal, at these starts on one, from 0."""
+    wrapped, count = tmp_path / "cq", tmp_path / "starts"
+    wrapped.write_text(
+        f"#!{sys.executable}\n"
+        "import os, signal, sys\n"
+        f"if sys.argv[1] == 'server':\n"
+        f"    with open({str(count)!r}, 'a+') as file:\n"
+        "        file.write('.')\n"
+        "        file.flush()\n"
+        "        start = file.tell() - 1\n"
+        f"    if {starts.start} <= start < {starts.stop}: os.kill(os.getpid(), signal.SIGKILL)\n"
+        f"os.execv({program()!r}, sys.argv)\n")
+    wrapped.chmod(0o755)
+    return wrapped
+
+
+@pytest.mark.parametrize("ends", [1, 4, 7])
+def test_a_cq_that_is_killed_before_it_has_read_its_journal_is_started_again(tmp_path, ends):
+    """It was killed once before, so that it is started again at all."""
+    first = Started("--journal", str(tmp_path / "journal"))
+    ByJson(first.url)("CreateQueue", QueueName="q", Attributes={})
+    assert first.stop() == 0
+    wrapped = ends_when_started(tmp_path, range(1, 1 + ends))
+    gateway = Started("--journal", str(tmp_path / "journal"), "--cq", str(wrapped), "--admin", "0")
+    call = ByJson(gateway.url)
+    call("SendMessage", QueueUrl="q", MessageBody="a")
+    os.kill(programs_of(gateway)[0], signal.SIGKILL)
+    call("SendMessage", QueueUrl="q", MessageBody="b")
+    assert len((tmp_path / "starts").read_text()) == 1 + ends + 1
+    assert metric(get(admin_url(gateway) + "/metrics")[1], "hobbychair_cq_restarts_total") == ends + 1
+    messages = call("ReceiveMessage", QueueUrl="q", MaxNumberOfMessages=10)["Messages"]
+    assert [message["Body"] for message in messages] == ["a", "b"]
+    assert gateway.stop() == 0
+
+
+def test_eight_ends_in_a_row_before_the_journal_is_read_end_the_gateway(tmp_path):
+    first = Started("--journal", str(tmp_path / "journal"))
+    ByJson(first.url)("CreateQueue", QueueName="q", Attributes={})
+    assert first.stop() == 0
+    wrapped = ends_when_started(tmp_path, range(1, 100))
+    gateway = Started("--journal", str(tmp_path / "journal"), "--cq", str(wrapped), errors=tmp_path / "errors")
+    os.kill(programs_of(gateway)[0], signal.SIGKILL)
+    assert gateway.process.wait(30) == 1
+    assert len((tmp_path / "starts").read_text()) == 1 + 8
+    assert "signal 9" in (tmp_path / "errors").read_text().splitlines()[-1]

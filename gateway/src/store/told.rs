@@ -42,6 +42,15 @@ impl ToldError {
         }
     }
 
+    /// Whether the program ended before it was ready, and said nothing of its file: it was killed, say.
+    pub fn is_end_before_ready(&self) -> bool {
+        match self {
+            ToldError::Cq(error) => error.is_gone() && !error.is_of_journal(),
+            ToldError::BadFrame(_) => true,
+            ToldError::Image { .. } | ToldError::NoMemory(_) => false,
+        }
+    }
+
     /// Whether the file has the journal of a session.
     pub fn is_of_other_journal(&self) -> bool {
         matches!(self, ToldError::Cq(error) if error.is_of_other_journal())

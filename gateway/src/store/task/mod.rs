@@ -85,7 +85,11 @@ pub enum Ended {
 impl Ended {
     /// Whether the program is gone, or as good as that: another one may do better.
     fn is_of_program(&self) -> bool {
-        matches!(self, Ended::Cq(_) | Ended::BadFrame(_) | Ended::NotNext { .. } | Ended::Unanswered(_))
+        match self {
+            Ended::Cq(_) | Ended::BadFrame(_) | Ended::NotNext { .. } | Ended::Unanswered(_) => true,
+            Ended::NotStartedAgain { why, .. } => why.is_end_before_ready(),
+            _ => false,
+        }
     }
 }
 
@@ -249,13 +253,24 @@ impl Task {
             match self.turn(&mut jobs).await {
                 Ok(()) => {}
                 Err(ended) => {
-                    let may_go_on = ended.is_of_program() && self.ends < MOST_ENDS_IN_A_ROW;
-                    let Some(file) = self.file.clone().filter(|_| may_go_on) else { return ended };
-                    tracing::error!("{ended}");
-                    if let Err(ended) = self.start_again_on(&file).await {
+                    if let Err(ended) = self.go_on_behind(ended).await {
                         return ended;
                     }
                 }
+            }
+        }
+    }
+
+    /// Starts the program again, also where it ends before it has read its file, as often as it may end in a row. An error says why it
+    /// isn't started any more.
+    async fn go_on_behind(&mut self, mut ended: Ended) -> Result<(), Ended> {
+        loop {
+            let may_go_on = ended.is_of_program() && self.ends < MOST_ENDS_IN_A_ROW;
+            let Some(file) = self.file.clone().filter(|_| may_go_on) else { return Err(ended) };
+            tracing::error!("{ended}");
+            match self.start_again_on(&file).await {
+                Ok(()) => return Ok(()),
+                Err(again) => ended = again,
             }
         }
     }
