@@ -237,6 +237,21 @@ def test_files_are_their_owners_alone_and_no_link_is_followed(tmp_path):
         assert gateway.stop() == 0
 
 
+def test_no_line_of_the_log_has_a_body(tmp_path):
+    """Not even where cq refuses a request, which a clock beyond its bound has it do."""
+    gateway = Started("--log-level", "debug", room=tmp_path, errors=tmp_path / "errors")
+    call = ByBoto3(gateway.client())
+    queue = call("CreateQueue", QueueName="q", Attributes={})["QueueUrl"]
+    gateway.set_clock(1 << 62)
+    with pytest.raises(Refused):
+        call("SendMessage", QueueUrl=queue, MessageBody="nobody's business", MessageAttributes={
+            "a": {"DataType": "String", "StringValue": "nor this"}})
+    gateway.kill()
+    told = (tmp_path / "errors").read_text()
+    assert "cq refused a send" in told, told
+    assert "business" not in told and "nor this" not in told
+
+
 @pytest.mark.parametrize("name", ["journal", "journal.1", "journal.lock"])
 def test_a_pipe_in_a_files_place_is_told(tmp_path, name):
     os.mkfifo(tmp_path / name)

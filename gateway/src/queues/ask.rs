@@ -173,6 +173,22 @@ pub enum Ask {
     },
 }
 
+impl Ask {
+    /// What it is, for operators.
+    pub fn kind(&self) -> &'static str {
+        match self {
+            Ask::Create { .. } => "a creation",
+            Ask::Remove { .. } => "a removal",
+            Ask::Say { .. } => "an entry of a book",
+            Ask::Send { .. } => "a send",
+            Ask::Receive { .. } => "a receive",
+            Ask::Delete { .. } => "a deletion",
+            Ask::ChangeVisibility { .. } => "a change of a timeout",
+            Ask::Parts { .. } => "a part of a message",
+        }
+    }
+}
+
 /// What is asked of a queue that has the parts of a message.
 #[derive(Clone, Debug, PartialEq, Eq)]
 pub enum PartsAsk {

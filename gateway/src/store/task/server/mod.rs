@@ -264,9 +264,9 @@ impl Task {
     /// A request that the program can't read is refused.
     fn request_unread(&mut self, place: usize, code: u32) -> Result<(), Ended> {
         if let Some(Open { entry: Entry::Ask(asked), .. }) = self.open.get(place) {
-            let start = String::from_utf8_lossy(&asked.written[..asked.written.len().min(200)]);
-            // A client may have said what stands in it.
-            tracing::warn!("cq refused a request ({code}): {start:?}");
+            let (queue, bytes) = (&asked.queue.name, asked.written.len());
+            // What stands in it is the client's, and goes to no log.
+            tracing::warn!(%queue, bytes, "cq refused {} ({code})", asked.ask.kind());
         }
         self.refuse(place, SqsError::of_refusal(code), |_| false)
     }
