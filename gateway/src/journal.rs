@@ -6,7 +6,7 @@
 use std::ffi::OsString;
 use std::fs::{File, OpenOptions, Permissions};
 use std::io::{self, Read, Write};
-use std::os::unix::fs::{FileExt, OpenOptionsExt, PermissionsExt};
+use std::os::unix::fs::{FileExt, MetadataExt, OpenOptionsExt, PermissionsExt};
 use std::path::{Path, PathBuf};
 use std::thread;
 use std::time::{Duration, Instant};
@@ -161,7 +161,7 @@ impl Files {
         let mut options = OpenOptions::new();
         // Whoever can read it could hold it, and keep the gateway from starting.
         options.create(true).read(true).write(true).truncate(false).mode(0o600);
-        let file = open_file(&name, &mut options)?;
+        let file = open_own_file(&name, &mut options)?;
         about(&name, file.set_permissions(Permissions::from_mode(0o600)))?;
         test_disk(&file, &self.path)?;
         let begun = Instant::now();
@@ -396,12 +396,26 @@ pub fn about<T>(path: &Path, result: io::Result<T>) -> io::Result<T> {
 
 /// Opens what has to be a file. A pipe would be waited for.
 pub fn open_file(path: &Path, options: &mut OpenOptions) -> io::Result<File> {
-    let flags = OFlags::NONBLOCK | OFlags::NOCTTY;
-    let opened =
-        options.custom_flags(flags.bits() as i32).open(path).and_then(|file| match file.metadata()?.is_file() {
-            true => Ok(file),
-            false => Err(io::Error::new(io::ErrorKind::InvalidInput, "it is no file")),
-        });
+    about(path, open_with(path, options, OFlags::empty()))
+}
+
+fn open_with(path: &Path, options: &mut OpenOptions, more: OFlags) -> io::Result<File> {
+    let flags = OFlags::NONBLOCK | OFlags::NOCTTY | more;
+    let file = options.custom_flags(flags.bits() as i32).open(path)?;
+    if file.metadata()?.is_file() {
+        return Ok(file);
+    }
+    Err(io::Error::new(io::ErrorKind::InvalidInput, "it is no file"))
+}
+
+/// Opens a file that has this name alone: what is behind a link is somebody else's.
+fn open_own_file(path: &Path, options: &mut OpenOptions) -> io::Result<File> {
+    let refused = |why: &str| Err(io::Error::new(io::ErrorKind::InvalidInput, why));
+    let opened = match open_with(path, options, OFlags::NOFOLLOW) {
+        Err(error) if error.raw_os_error() == Some(libc::ELOOP) => refused("it is a symbolic link"),
+        Ok(file) if file.metadata().is_ok_and(|found| found.nlink() != 1) => refused("it has a hard link"),
+        opened => opened,
+    };
     about(path, opened)
 }
 

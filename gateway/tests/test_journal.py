@@ -237,6 +237,22 @@ def test_files_are_their_owners_alone_and_no_link_is_followed(tmp_path):
         assert gateway.stop() == 0
 
 
+@pytest.mark.parametrize("link", ["symbolic link", "symbolic link to nothing", "hard link"])
+def test_a_lock_that_is_a_link_is_refused_and_what_is_behind_it_stays(tmp_path, link):
+    victim, lock = tmp_path / "victim", tmp_path / "journal.lock"
+    victim.write_text("kept")
+    victim.chmod(0o644)
+    if link == "hard link":
+        os.link(victim, lock)
+    else:
+        lock.symlink_to(victim if link == "symbolic link" else tmp_path / "nothing")
+    ended = start(tmp_path / "journal")
+    why = "it has a hard link" if link == "hard link" else "it is a symbolic link"
+    assert ended.returncode == 1 and ended.stderr == f"hobbychair: {lock}: {why}\n"
+    assert victim.read_text() == "kept" and mode(victim) == 0o644 and not (tmp_path / "nothing").exists()
+    assert sorted(file.name for file in tmp_path.glob("journal*")) == ["journal.lock"]
+
+
 def test_no_line_of_the_log_has_a_body(tmp_path):
     """Not even where cq refuses a request, which a clock beyond its bound has it do."""
     gateway = Started("--log-level", "debug", room=tmp_path, errors=tmp_path / "errors")
