@@ -364,10 +364,26 @@ fn remove(path: &Path) -> io::Result<()> {
     }
 }
 
-/// Has a file have all of its space from now on, if the disk has so much. One that is made of another takes it as it needs it.
+/// A disk counts the space of files in blocks of so many bytes.
+const BLOCK: u64 = 512;
+
+/// Has a file have all of its space from now on, if the disk has so much. One that is made of another, as a copy is, takes it as it
+/// needs it otherwise. One that has it already stays as it is.
 pub fn take_space(path: &Path) -> io::Result<()> {
     let file = open_file(path, OpenOptions::new().write(true))?;
-    let length = about(path, file.metadata())?.len();
+    let found = about(path, file.metadata())?;
+    let length = found.len();
+    let lacking = length.saturating_sub(BLOCK * found.blocks());
+    if lacking == 0 {
+        return Ok(());
+    }
+    // Where there is less, a part of it would be taken all the same.
+    let left = fstatfs(&file).map(|disk| disk.f_bavail * disk.f_bsize as u64).unwrap_or(u64::MAX);
+    if left < lacking {
+        let name = path.display();
+        tracing::warn!("{name} takes space as it needs it: it lacks {lacking} bytes, and the disk has {left} left");
+        return Ok(());
+    }
     match fallocate(&file, FallocateFlags::empty(), 0, length) {
         Ok(()) => about(path, file.sync_all()),
         Err(error) => {
@@ -406,6 +422,11 @@ fn open_with(path: &Path, options: &mut OpenOptions, more: OFlags) -> io::Result
         return Ok(file);
     }
     Err(io::Error::new(io::ErrorKind::InvalidInput, "it is no file"))
+}
+
+/// Whether there is a file of this name, which is no link and has no other one.
+pub fn has_one_name(path: &Path) -> bool {
+    std::fs::symlink_metadata(path).is_ok_and(|found| found.is_file() && found.nlink() == 1)
 }
 
 /// Opens a file that has this name alone: what is behind a link is somebody else's.

@@ -26,7 +26,7 @@ use crate::cq::{test_built, test_version, Cq};
 use crate::delays;
 use crate::ending::End;
 use crate::http::{is_of_this_machine, listen, shared, test_free, Addresses, Door, Hosts, Places, Service};
-use crate::journal::{emptied, has_had_requests, Files, Lock};
+use crate::journal::{emptied, has_had_requests, has_one_name, take_space, Files, Lock};
 use crate::metrics::Metrics;
 use crate::move_tasks;
 use crate::moves;
@@ -300,6 +300,21 @@ struct Begun {
     _lock: Option<Lock>,
 }
 
+/// A journal that was put back from a copy has as much space as it needs so far, and the disk may be full when it needs more. What is
+/// wrong with a file is told by its program.
+async fn take_space_of_all(settings: &Settings, files: &Files) {
+    let paths: Vec<_> = settings.shards.all().map(|shard| files.of(shard.place()).path).collect();
+    let taking = tokio::task::spawn_blocking(move || {
+        for path in paths.iter().filter(|path| has_one_name(path)) {
+            if let Err(error) = take_space(path) {
+                tracing::warn!("{error}");
+            }
+        }
+    });
+    // It doesn't panic.
+    let _ = taking.await;
+}
+
 /// Starts programs that keep their entries, and makes the tables of what each tells of its store.
 async fn begin_kept(
     settings: &Arc<Settings>,
@@ -310,6 +325,7 @@ async fn begin_kept(
     let (clock, queues) = tables;
     let (program, patience) = (settings.program.as_str(), settings.cq_timeout);
     let lock = Upgrade { program, patience, files, clock, progress: &health.replayed }.prepare().await?;
+    take_space_of_all(settings, files).await;
     let starting: Vec<_> = settings
         .shards
         .all()

@@ -7,6 +7,8 @@ import threading
 import time
 from pathlib import Path
 
+import pytest
+
 from started import ByJson, Refused, Started, dumped, files_of, run
 
 FIFO = {"FifoQueue": "true"}
@@ -105,3 +107,25 @@ def test_what_a_journal_holds_is_told_and_what_is_wrong_with_it(tmp_path):
     for word in ("verify", "dump"):
         ended = run(word, str(journal))
         assert ended.returncode == 1 and f"{journal}.cq1: cq: 6" in ended.stderr
+
+
+def blocks(file: Path) -> int:
+    return 512 * file.stat().st_blocks
+
+
+@pytest.mark.parametrize("shards", [1, 2])
+def test_a_restored_journal_has_all_of_its_space_from_its_first_start_on(tmp_path, shards):
+    """A disk that gets full later takes nothing from it."""
+    journal, copy, words = tmp_path / "journal", tmp_path / "copy", ["--shards", str(shards)]
+    gateway = Started("--journal", str(journal), *words)
+    ByJson(gateway.url)("CreateQueue", QueueName="kept.fifo", Attributes=FIFO)
+    ByJson(gateway.url)("SendMessage", QueueUrl="kept.fifo", MessageBody="0", MessageGroupId="g", MessageDeduplicationId="0")
+    assert run("backup", str(journal), str(copy)).returncode == 0
+    assert gateway.stop() == 0
+    assert len(files_of(copy)) == shards and all(blocks(file) < file.stat().st_size / 2 for file in files_of(copy))
+    before = [file.read_bytes() for file in files_of(copy)]
+    gateway = Started("--journal", str(copy), *words)
+    assert all(blocks(file) >= file.stat().st_size for file in files_of(copy))
+    assert [len(data) for data in before] == [file.stat().st_size for file in files_of(copy)]
+    assert ByJson(gateway.url)("ReceiveMessage", QueueUrl="kept.fifo")["Messages"][0]["Body"] == "0"
+    assert gateway.stop() == 0
