@@ -129,12 +129,20 @@ impl Polls {
         place.map(|place| waiting.polls.remove(place)).is_some()
     }
 
-    /// Takes the first polls, to try them.
+    /// Takes the first polls, to try them. Those of them whose clients have gone without anybody's notice are answered with nothing.
     fn take(&self, count: u64) -> Vec<Poll> {
         let mut waiting = self.waiting();
         waiting.polls.retain(|poll| !poll.is_gone());
-        let count = waiting.polls.len().min(count as usize);
-        waiting.polls.drain(..count).collect()
+        let mut taken = Vec::new();
+        while (taken.len() as u64) < count {
+            let Some(poll) = waiting.polls.pop_front() else { break };
+            if poll.presence.has_left() {
+                let _ = poll.done.send(Ok(Vec::new()));
+            } else {
+                taken.push(poll);
+            }
+        }
+        taken
     }
 
     fn put_back(&self, poll: Poll) {

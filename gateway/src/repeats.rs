@@ -1,6 +1,7 @@
 //! Answers that were lost on their way: an SDK that asks again for the same call is given the first answer.
 
 use std::collections::{HashMap, VecDeque};
+use std::os::unix::io::RawFd;
 use std::sync::{Arc, Mutex, MutexGuard, PoisonError};
 use std::time::{Duration, Instant};
 
@@ -127,20 +128,21 @@ impl Repeats {
         self.0.lock().unwrap_or_else(PoisonError::into_inner)
     }
 
-    /// Takes up a request. A repeat is one only while what its call handed out is still in flight.
-    pub fn enter(&self, key: IdempotencyKey, is_repeat: bool, clock: &Clock) -> Lookup {
+    /// Takes up a request of a connection that has this socket. A repeat is one only while what its call handed out is still in
+    /// flight.
+    pub fn enter(&self, key: IdempotencyKey, is_repeat: bool, socket: Option<RawFd>, clock: &Clock) -> Lookup {
         let mut known = self.known();
         known.forget_old();
         if is_repeat {
             if let Some(call) = known.calls.get(&key).filter(|call| call.is_good(clock)) {
-                return Lookup::Again(call.presence.enter(), PendingAnswer(call.answer.clone()));
+                return Lookup::Again(call.presence.enter(socket), PendingAnswer(call.answer.clone()));
             }
         }
         known.last_number += 1;
         let number = known.last_number;
         let (answer, watched) = watch::channel(None);
         let presence = Presence::default();
-        let present = presence.enter();
+        let present = presence.enter(socket);
         let call = KnownCall { presence: presence.clone(), answer: watched, answered: None, bytes: 0, number };
         if let Some(earlier) = known.calls.insert(key, call) {
             known.bytes -= earlier.bytes;
@@ -241,14 +243,14 @@ mod tests {
     #[tokio::test]
     async fn a_repeat_is_given_the_first_answer_and_a_first_try_is_not() {
         let (repeats, clock) = (Repeats::default(), Clock::new());
-        let Lookup::First(_, _present, open) = repeats.enter(key("1"), true, &clock) else { panic!() };
-        let Lookup::Again(_again, waiting) = repeats.enter(key("1"), true, &clock) else { panic!() };
+        let Lookup::First(_, _present, open) = repeats.enter(key("1"), true, None, &clock) else { panic!() };
+        let Lookup::Again(_again, waiting) = repeats.enter(key("1"), true, None, &clock) else { panic!() };
         repeats.end(open, result(true));
         assert_eq!(waiting.wait().await.unwrap().reply.request_id, "r");
-        assert!(matches!(repeats.enter(key("1"), true, &clock), Lookup::Again(..)));
-        assert!(matches!(repeats.enter(key("2"), true, &clock), Lookup::First(..)));
-        let Lookup::First(_, _present, open) = repeats.enter(key("1"), false, &clock) else { panic!() };
+        assert!(matches!(repeats.enter(key("1"), true, None, &clock), Lookup::Again(..)));
+        assert!(matches!(repeats.enter(key("2"), true, None, &clock), Lookup::First(..)));
+        let Lookup::First(_, _present, open) = repeats.enter(key("1"), false, None, &clock) else { panic!() };
         repeats.end(open, result(false));
-        assert!(matches!(repeats.enter(key("1"), true, &clock), Lookup::First(..)));
+        assert!(matches!(repeats.enter(key("1"), true, None, &clock), Lookup::First(..)));
     }
 }

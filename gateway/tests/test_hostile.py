@@ -129,8 +129,9 @@ def test_a_length_beside_chunks_closes_the_connection(gateway, framing):
     assert read_response(connection)[0] == 200
 
 
+@pytest.mark.parametrize("later", [0, 0.3, 2.5])
 @pytest.mark.parametrize("behind", [b"x", b"GET / HTTP/1.1\r\nHost: localhost\r\n\r\n"])
-def test_a_client_that_sent_more_behind_its_poll_and_goes_takes_no_message(gateway, behind):
+def test_a_client_that_sent_more_behind_its_poll_and_goes_takes_no_message(gateway, behind, later):
     call = ByJson(gateway.url)
     content = b'{"QueueUrl":"q.fifo","WaitTimeSeconds":20}'
     connection = connect(gateway)
@@ -139,8 +140,9 @@ def test_a_client_that_sent_more_behind_its_poll_and_goes_takes_no_message(gatew
     connection.sendall(behind)
     time.sleep(0.2)
     connection.close()
-    time.sleep(2.5)
-    call("SendMessage", QueueUrl="q.fifo", MessageBody="b", MessageGroupId="behind", MessageDeduplicationId=f"behind-{len(behind)}")
+    time.sleep(later)
+    dedup = f"behind-{len(behind)}-{later}"
+    call("SendMessage", QueueUrl="q.fifo", MessageBody="b", MessageGroupId="behind", MessageDeduplicationId=dedup)
     time.sleep(0.2)
     (message,) = call("ReceiveMessage", QueueUrl="q.fifo")["Messages"]
     call("DeleteMessage", QueueUrl="q.fifo", ReceiptHandle=message["ReceiptHandle"])

@@ -332,9 +332,9 @@ impl Call {
             return self.answer_once().await;
         };
         let service = self.connection.service.clone();
-        let (protocol, request_id) = (self.protocol, self.request_id);
+        let (protocol, request_id, socket) = (self.protocol, self.request_id, self.connection.progress.socket());
         let Repeatable { key, is_again } = *repeatable;
-        let (_present, answer) = match service.repeats.enter(key, is_again, service.actions.store().clock()) {
+        let (_present, answer) = match service.repeats.enter(key, is_again, socket, service.actions.store().clock()) {
             Lookup::Again(present, answer) => (present, answer),
             Lookup::First(presence, present, open) => {
                 let answer = service.repeats.answer_of(&open);
@@ -362,7 +362,9 @@ impl Call {
     /// Performs a call of which there are no repeats.
     async fn answer_once(self: Box<Call>) -> Reply {
         let presence = Presence::default();
-        let _present = presence.enter();
+        // Others wait for nothing that may go to someone else.
+        let socket = self.connection.progress.socket().filter(|_| self.action == Action::ReceiveMessage);
+        let _present = presence.enter(socket);
         if !self.action.outlives_its_client() {
             return self.perform(presence).await.reply;
         }

@@ -8,12 +8,11 @@ use std::sync::{Arc, Mutex, MutexGuard, PoisonError};
 use std::task::{ready, Context, Poll};
 use std::time::Duration;
 
-use rustix::fd::BorrowedFd;
-use rustix::io::{poll, PollFd, PollFlags};
 use tokio::io::{AsyncRead, AsyncWrite, ReadBuf};
 use tokio::time::{sleep, sleep_until, Instant, Sleep};
 
 use super::framing::Framing;
+use crate::presence::is_hung_up;
 
 /// So long a client may leave unread what it is sent, before its connection is closed.
 const LONGEST_STALL: Duration = Duration::from_secs(60);
@@ -78,6 +77,11 @@ impl Progress {
     /// The same for the connection of this socket, which is open as long as anybody asks whether its client has left.
     pub fn of_socket(self, socket: RawFd) -> Progress {
         Progress { socket: Some(socket), ..self }
+    }
+
+    /// The socket of the connection, where it is known.
+    pub fn socket(&self) -> Option<RawFd> {
+        self.socket
     }
 
     fn state(&self) -> MutexGuard<'_, ProgressState> {
@@ -155,15 +159,6 @@ impl Progress {
             }
         }
     }
-}
-
-/// Whether the other side sends no more, be there unread bytes or not.
-fn is_hung_up(socket: RawFd) -> bool {
-    // SAFETY: whoever asks is a part of the connection, which owns the socket.
-    let socket = unsafe { BorrowedFd::borrow_raw(socket) };
-    let mut asked = [PollFd::from_borrowed_fd(socket, PollFlags::RDHUP)];
-    let gone = PollFlags::RDHUP | PollFlags::HUP | PollFlags::ERR;
-    poll(&mut asked, 0).is_ok() && asked[0].revents().intersects(gone)
 }
 
 /// The stream of a connection.
