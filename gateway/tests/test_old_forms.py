@@ -97,3 +97,24 @@ def test_who_asks_is_told(gateway):
     assert root.findtext(f"{space}ResponseMetadata/{space}RequestId")
     with pytest.raises(Refused, match="InvalidAction"):
         ByJson(gateway.url)("GetCallerIdentity")
+
+
+SEND = "Action=SendMessage&MessageBody={}&MessageGroupId=g&MessageDeduplicationId=d"
+
+
+@pytest.mark.parametrize("before, body", [
+    ("", SEND.format("%C3%A4")), ("", SEND.format("\u00e4")), ("", SEND.format("%C3%A4") + "&"), ("", "&" + SEND.format("%C3%A4") + "&foo"),
+    ("?Action=SendMessage", SEND.format("\u00e4").removeprefix("Action=SendMessage&")),
+    ("?Action=DeleteQueue&MessageBody=b", SEND.format("\u00e4")),
+])
+def test_forms_are_read_as_other_servers_read_them(queue, before, body):
+    """As curl writes them: with UTF-8 as it stands, an & at the end, names without a value, and fields in the URL."""
+    status, _, answer = post(queue + before, body.encode(), {"Content-Type": "application/x-www-form-urlencoded"})
+    assert status == 200, answer
+    assert form(queue, Action="ReceiveMessage")[1].findtext("ReceiveMessageResult/Message/Body") == "\u00e4"
+
+
+def test_bytes_that_are_no_utf_8_are_told_as_that(queue):
+    for body in (SEND.format("%ff").encode(), SEND.format("x").encode() + b"&a=\xff"):
+        status, _, answer = post(queue, body, {"Content-Type": "application/x-www-form-urlencoded"})
+        assert status == 400 and b"<Code>InvalidParameterValue</Code>" in answer and b"no UTF-8" in answer

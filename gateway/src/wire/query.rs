@@ -22,25 +22,23 @@ const LONGEST_WHO: usize = 4096;
 /// Whether this is GetCallerIdentity, an action of another service, which Terraform asks for (Security Token Service API
 /// Reference).
 pub fn asks_who(incoming: &Incoming<'_>) -> bool {
-    let text = text_of(incoming);
-    let is_small = incoming.path_queue.is_none() && text.len() <= LONGEST_WHO;
-    let mut fields = form_urlencoded::parse(text);
-    is_small && fields.find(|(name, _)| name == "Action").is_some_and(|(_, value)| value == "GetCallerIdentity")
+    let forms = forms_of(incoming);
+    let is_small = incoming.path_queue.is_none() && forms.iter().map(|form| form.len()).sum::<usize>() <= LONGEST_WHO;
+    let fields = || forms.into_iter().flat_map(form_urlencoded::parse);
+    is_small
+        && fields().filter(|(name, _)| name == "Action").last().is_some_and(|(_, value)| value == "GetCallerIdentity")
 }
 
-fn text_of<'a>(incoming: &Incoming<'a>) -> &'a [u8] {
-    if incoming.body.is_empty() {
-        incoming.query.as_bytes()
-    } else {
-        incoming.body
-    }
+/// Fields stand in the URL and in the body. Where both have one, that of the body counts.
+fn forms_of<'a>(incoming: &Incoming<'a>) -> [&'a [u8]; 2] {
+    [incoming.query.as_bytes(), incoming.body]
 }
 
 pub fn read(incoming: &Incoming<'_>) -> Result<Request, SqsError> {
     if asks_who(incoming) {
         return Ok(Request::GetCallerIdentity);
     }
-    let fields = fields(text_of(incoming))?;
+    let fields = fields(forms_of(incoming))?;
     let Some(Field::Text(name)) = fields.get("Action") else {
         return Err(SqsError::MissingParameter("Action".into()));
     };
@@ -85,19 +83,18 @@ fn wrong(message: String) -> SqsError {
     SqsError::InvalidParameterValue(message)
 }
 
-/// Reads a form. Takes time in proportion to its bytes.
-fn fields(text: &[u8]) -> Result<Fields, SqsError> {
-    let no_form = || wrong("The request is no form in UTF-8.".into());
-    let has_good_parts = text.is_empty() || text.split(|byte| *byte == b'&').all(|part| part.contains(&b'='));
-    if !has_good_parts || !text.is_ascii() || !is_utf8_behind_escapes(text) {
-        return Err(no_form());
+/// Reads forms as all servers do (URL Standard, "application/x-www-form-urlencoded parsing"): parts without a byte are none, and
+/// one without `=` is a name. Takes time in proportion to their bytes.
+fn fields(forms: [&[u8]; 2]) -> Result<Fields, SqsError> {
+    if !forms.iter().all(|form| is_utf8_behind_escapes(form)) {
+        return Err(wrong("The request has bytes that are no UTF-8.".into()));
     }
     // A field of a few bytes takes a hundred times as many here.
-    if memchr::memchr_iter(b'&', text).count() >= MOST_FIELDS {
+    if forms.iter().map(|form| memchr::memchr_iter(b'&', form).count()).sum::<usize>() >= MOST_FIELDS {
         return Err(wrong(format!("A form has at most {MOST_FIELDS} fields.")));
     }
     let mut whole = Fields::new();
-    for (name, value) in form_urlencoded::parse(text) {
+    for (name, value) in forms.into_iter().flat_map(form_urlencoded::parse) {
         insert(&mut whole, &name, value.into_owned())?;
     }
     Ok(whole)
@@ -525,6 +522,7 @@ mod tests {
         for body in [
             "Action",
             "Action=ListQueues&QueueNamePrefix=%ff",
+            "Action=ListQueues&QueueNamePrefix=%c3",
             "Action=ListQueueTags&Attribute=1&Attribute.1.Name=a",
             "Action=ListQueueTags&Attribute.1.Name=a&Attribute=1",
             "Action=ListQueueTags&AttributeName.x=a",
@@ -538,6 +536,40 @@ mod tests {
         assert!(read_form(&format!("Action=ListQueueTags{}", "&a=".repeat(MOST_FIELDS - 1))).is_ok());
         assert_eq!(read_form(""), Err(SqsError::MissingParameter("Action".into())));
         assert_eq!(read_form("Action=SendMessageBatch&Entries="), Err(SqsError::EmptyBatchRequest));
+    }
+
+    #[test]
+    fn forms_are_read_as_all_servers_read_them() {
+        let wanted =
+            read_form("Action=SendMessage&MessageBody=%C3%A4&MessageGroupId=g&MessageDeduplicationId=d").unwrap();
+        let others = [
+            "Action=SendMessage&MessageBody=ä&MessageGroupId=g&MessageDeduplicationId=d",
+            "&Action=SendMessage&&MessageBody=%C3%A4&MessageGroupId=g&MessageDeduplicationId=d&",
+            "foo&Action=SendMessage&MessageBody=%C3%A4&MessageGroupId=g&MessageDeduplicationId=d&foo",
+        ];
+        for body in others {
+            assert_eq!(read_form(body).as_ref(), Ok(&wanted), "{body}");
+        }
+        // Fields of the URL are fields, too, and those of the body count.
+        let in_both = |query, body: &str| {
+            read(&Incoming { target: None, path_queue: Some("q.fifo"), query, body: body.as_bytes() })
+        };
+        let rest = "MessageBody=ä&MessageGroupId=g&MessageDeduplicationId=d";
+        assert_eq!(in_both("Action=SendMessage", rest).as_ref(), Ok(&wanted));
+        assert_eq!(
+            in_both("Action=PurgeQueue&MessageBody=b", &format!("Action=SendMessage&{rest}")).as_ref(),
+            Ok(&wanted)
+        );
+        assert!(in_both("Action=SendMessage&MessageBody=%ff", rest).is_err());
+        assert!(in_both(
+            &"a&".repeat(MOST_FIELDS / 2),
+            &format!("Action=ListQueueTags{}", "&a".repeat(MOST_FIELDS / 2))
+        )
+        .is_err());
+        let who =
+            |query, body: &str| asks_who(&Incoming { target: None, path_queue: None, query, body: body.as_bytes() });
+        assert!(who("Action=GetCallerIdentity", "Version=1") && who("", "Action=GetCallerIdentity"));
+        assert!(!who("Action=GetCallerIdentity", "Action=ListQueues"));
     }
 
     #[test]
