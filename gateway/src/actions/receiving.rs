@@ -49,7 +49,8 @@ impl Actions {
         let attempt = receive.attempt.clone();
         let ask = Ask::Receive { size: receive.size, visibility, attempt, most: None, reach: Reach::All };
         let Delivered { mut handed, openings } = deliveries::receive(&self.store, &queue, ask.clone()).await?;
-        if handed.is_empty() && wait == 0 && has_most_in_flight(&self.store, &queue) {
+        let is_told = handed.is_empty() && wait == 0 && queue.name.kind() == QueueKind::Standard;
+        if is_told && has_most_in_flight(&self.store, &queue) {
             let message = "Too many messages of the queue are in flight.";
             return Err(SqsError::OverLimit(message.into()));
         }

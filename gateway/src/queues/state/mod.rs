@@ -476,7 +476,7 @@ impl State {
     /// Whether so many messages are in flight that none may be added (Developer Guide, "Amazon SQS message quotas"). Of
     /// a FIFO queue nobody is told so.
     pub fn has_most_in_flight(&mut self, now: Moment) -> bool {
-        self.kind == QueueKind::Standard && self.messages.count_in_flight(now) >= MOST_IN_FLIGHT
+        self.messages.count_in_flight(now) >= MOST_IN_FLIGHT
     }
 
     /// The first end of a timeout that is still to come.

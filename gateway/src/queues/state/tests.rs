@@ -244,10 +244,10 @@ fn given(places: std::ops::RangeInclusive<u64>) -> StoreReply {
 }
 
 #[test]
-fn a_standard_queue_has_120_000_messages_in_flight_and_a_fifo_queue_more() {
+fn a_queue_has_at_most_120_000_messages_in_flight() {
     let most = MOST_IN_FLIGHT as u64;
     let ask = Ask::Receive { size: 1, visibility: 5, attempt: None, most: None, reach: Reach::All };
-    for (name, is_bounded) in [("standard", true), ("q.fifo", false)] {
+    for name in ["standard", "q.fifo"] {
         let mut state = state_of(name);
         (1..=most).for_each(|place| drop(send_standard(&mut state, place, 0, Cause::Client, 0)));
         state.apply_reply(&ask, given(1..=most - 1), 1000, &Jumps::default()).unwrap();
@@ -256,7 +256,7 @@ fn a_standard_queue_has_120_000_messages_in_flight_and_a_fifo_queue_more() {
         state.apply_reply(&same_end, StoreReply::Changed, 1000, &Jumps::default()).unwrap();
         assert!(!state.has_most_in_flight(1000));
         state.apply_reply(&ask, given(most..=most), 2000, &Jumps::default()).unwrap();
-        assert_eq!((state.has_most_in_flight(2000), state.has_most_in_flight(5999)), (is_bounded, is_bounded));
+        assert!(state.has_most_in_flight(2000) && state.has_most_in_flight(5999));
         delete(&mut state, 1, 5999);
         assert!(!state.has_most_in_flight(5999));
         assert_eq!((state.next_end(5999), state.next_end(6000)), (Some(6000), Some(7000)));
