@@ -129,6 +129,20 @@ def test_a_length_beside_chunks_closes_the_connection(gateway, framing):
     assert read_response(connection)[0] == 200
 
 
+@pytest.mark.parametrize("header, status", [
+    (b"Transfer-Encoding: gzip, chunked", 501), (b"Transfer-Encoding: gzip\r\nTransfer-Encoding: chunked", 501),
+    (b"Transfer-Encoding: Chunked", 200), (b"Transfer-Encoding: chunked\r\nExpect: 200-ok", 417),
+    (b"Transfer-Encoding: chunked\r\nExpect: 100-Continue", 200)])
+def test_codings_and_expectations_that_nobody_knows_are_refused(gateway, header, status):
+    """RFC 9112, 6.1, and RFC 9110, 10.1.1."""
+    connection = connect(gateway)
+    begin = b"POST / HTTP/1.1\r\nHost: localhost\r\nConnection: close\r\n" + JSON % b"ListQueues"
+    connection.sendall(begin + header + b"\r\n\r\n2\r\n{}\r\n0\r\n\r\n")
+    statuses = re.findall(rb"HTTP/1.1 (\d+)", read_all(connection))
+    assert int(statuses[-1]) == status and statuses[:-1] in ([], [b"100"])
+    serves(gateway)
+
+
 @pytest.mark.parametrize("later", [0, 0.3, 2.5])
 @pytest.mark.parametrize("behind", [b"x", b"GET / HTTP/1.1\r\nHost: localhost\r\n\r\n"])
 def test_a_client_that_sent_more_behind_its_poll_and_goes_takes_no_message(gateway, behind, later):

@@ -118,3 +118,20 @@ def test_bytes_that_are_no_utf_8_are_told_as_that(queue):
     for body in (SEND.format("%ff").encode(), SEND.format("x").encode() + b"&a=\xff"):
         status, _, answer = post(queue, body, {"Content-Type": "application/x-www-form-urlencoded"})
         assert status == 400 and b"<Code>InvalidParameterValue</Code>" in answer and b"no UTF-8" in answer
+
+
+@pytest.mark.parametrize("token", ["\u00e4", "q", "AAAA", "QUFBQWFhYWE"])
+def test_a_token_that_no_list_gave_is_refused(gateway, queue, token):
+    for action, more in (("ListQueues", {}), ("ListDeadLetterSourceQueues", {"QueueUrl": queue})):
+        with pytest.raises(Refused, match="InvalidParameterValue 400"):
+            ByJson(gateway.url)(action, NextToken=token, MaxResults=2, **more)
+
+
+def test_an_attribute_with_two_values_is_refused(gateway, queue):
+    both = {"DataType": "String", "StringValue": "x", "BinaryValue": b"y"}
+    send = {"QueueUrl": queue, "MessageBody": "b", "MessageGroupId": "g", "MessageDeduplicationId": "d"}
+    with pytest.raises(Refused, match="InvalidParameterValue 400"):
+        ByJson(gateway.url)("SendMessage", **send, MessageAttributes={"a": both})
+    with pytest.raises(Refused, match="InvalidParameterValue 400"):
+        ByJson(gateway.url)("SendMessage", **send, MessageSystemAttributes={"AWSTraceHeader": both})
+    assert ByJson(gateway.url)("ReceiveMessage", QueueUrl=queue).get("Messages") is None

@@ -6,6 +6,7 @@ use crate::errors::SqsError;
 use crate::redrive::{refusal, QueueArn, RedriveAllowPolicy, RedrivePolicy, REDRIVE_ALLOW_POLICY, REDRIVE_POLICY};
 use crate::texts::QueueName;
 use crate::wire::requests::Action;
+use crate::wire::tokens::token_behind;
 use crate::wire::Response;
 
 impl Actions {
@@ -60,7 +61,7 @@ impl Actions {
         }
         let has_more = names.len() > count;
         names.truncate(count);
-        let next = names.last().map(QueueName::to_string).filter(|_| has_more && most.is_some());
+        let next = names.last().map(|name| token_behind(name.as_str())).filter(|_| has_more && most.is_some());
         let urls = names.iter().map(|name| self.url(name, caller)).collect();
         Ok(Performed::of_tables(Response::SourceQueues { urls, next }))
     }

@@ -14,6 +14,7 @@ use crate::queues::Queue;
 use crate::store::Answer;
 use crate::texts::QueueName;
 use crate::wire::requests::{test_count_of_tags, Tags};
+use crate::wire::tokens::token_behind;
 use crate::wire::Response;
 
 /// So long a queue can't be purged again, in milliseconds (API Reference, PurgeQueue, `PurgeQueueInProgress`).
@@ -69,7 +70,7 @@ impl Actions {
         let count = most.unwrap_or(LONGEST_PAGE) as usize;
         let sees = |name: &QueueName| caller.identity.as_ref().map_or(true, |identity| identity.sees(name));
         let (names, has_more) = self.store.queues().page(prefix, after, count, sees);
-        let last = names.last().map(QueueName::to_string);
+        let last = names.last().map(|name| token_behind(name.as_str()));
         let urls = names.iter().map(|name| self.url(name, caller)).collect();
         let next = last.filter(|_| has_more && most.is_some());
         Performed::of_tables(Response::Queues { urls, next })

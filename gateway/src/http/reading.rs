@@ -1,7 +1,7 @@
 //! What of an HTTP request says what is asked, and why it may not be read.
 
 use bytes::Bytes;
-use hyper::header::{HeaderValue, ALLOW, CONNECTION};
+use hyper::header::{HeaderValue, ALLOW, CONNECTION, EXPECT, TRANSFER_ENCODING};
 use hyper::http::request::Parts;
 use hyper::{Method, Response, StatusCode};
 use uuid::Uuid;
@@ -16,6 +16,10 @@ pub enum Unread {
     LongHead,
     /// It is neither a POST nor a GET, nor a HEAD.
     Method,
+    /// It comes in another coding than chunks (RFC 9112, 6.1).
+    Coding,
+    /// It expects something else than `100-continue` (RFC 9110, 10.1.1).
+    Expectation,
     NotFound,
     /// `closes`: the connection ends behind the refusal, since not all of the request was read.
     Refused {
@@ -36,7 +40,11 @@ impl Unread {
         match self {
             Unread::LongHead => too_long_a_head(),
             Unread::Method => other_method(),
-            Unread::NotFound => not_found(),
+            Unread::Coding => plain(StatusCode::NOT_IMPLEMENTED, "There is no transfer coding but chunked here.\n"),
+            Unread::Expectation => {
+                plain(StatusCode::EXPECTATION_FAILED, "There is no expectation but 100-continue here.\n")
+            }
+            Unread::NotFound => plain(StatusCode::NOT_FOUND, "There is nothing at this path.\n"),
             Unread::Refused { error, closes } => refused(protocol, error, request_id, *closes),
         }
     }
@@ -46,6 +54,14 @@ impl Unread {
 pub fn incoming<'a>(head: &'a Parts, body: &'a [u8]) -> Result<Incoming<'a>, Unread> {
     if ![Method::POST, Method::GET, Method::HEAD].contains(&head.method) {
         return Err(Unread::Method);
+    }
+    for (name, value) in &head.headers {
+        if *name == TRANSFER_ENCODING && !value.as_bytes().eq_ignore_ascii_case(b"chunked") {
+            return Err(Unread::Coding);
+        }
+        if *name == EXPECT && !value.as_bytes().eq_ignore_ascii_case(b"100-continue") {
+            return Err(Unread::Expectation);
+        }
     }
     Ok(Incoming {
         target: text_of(&head.headers, &TARGET),
@@ -80,8 +96,8 @@ fn other_method() -> Response<Bytes> {
     response
 }
 
-fn not_found() -> Response<Bytes> {
-    let mut response = Response::new(Bytes::from_static(b"There is nothing at this path.\n"));
-    *response.status_mut() = StatusCode::NOT_FOUND;
+fn plain(status: StatusCode, text: &'static str) -> Response<Bytes> {
+    let mut response = Response::new(Bytes::from_static(text.as_bytes()));
+    *response.status_mut() = status;
     response
 }

@@ -180,8 +180,11 @@ impl<'m, 'a> Members<'m, 'a> {
             let message = "Message attribute list values in SendMessage operation are not supported.";
             return Err(SqsError::UnsupportedOperation(message.into()));
         }
-        let data_type = self.text("DataType")?.unwrap_or_default();
-        AttributeValue::new(name, data_type, self.text("StringValue")?, self.text("BinaryValue")?)
+        let (data_type, text, binary) = (self.text("DataType")?, self.text("StringValue")?, self.text("BinaryValue")?);
+        if text.is_some() && binary.is_some() {
+            return Err(wrong(format!("Message attribute {name} has a StringValue and a BinaryValue.")));
+        }
+        AttributeValue::new(name, data_type.unwrap_or_default(), text, binary)
     }
 
     fn structures(&self, name: &str) -> Result<Vec<(&'m str, Members<'m, 'a>)>, SqsError> {

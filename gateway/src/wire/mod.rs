@@ -7,6 +7,7 @@ pub mod requests;
 pub mod responses;
 #[cfg(test)]
 mod tests;
+pub mod tokens;
 mod value;
 
 pub use query::peeked;

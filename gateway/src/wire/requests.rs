@@ -5,6 +5,7 @@ use std::str::FromStr;
 use uuid::Uuid;
 
 use super::members::Members;
+use super::tokens::name_before;
 use super::value::Map;
 use crate::attributes::{GivenAttributes, WantedAttributes};
 use crate::errors::SqsError;
@@ -545,7 +546,7 @@ pub fn read(action: Action, members: &Map<'_>) -> Result<Request, SqsError> {
         Action::ListDeadLetterSourceQueues => Request::ListDeadLetterSourceQueues {
             queue: queue()?,
             most: members.number("MaxResults", 1, 1000)?,
-            after: members.text("NextToken")?.unwrap_or_default().into(),
+            after: members.text("NextToken")?.map_or(Ok(String::new()), name_before)?,
         },
         Action::ListMessageMoveTasks => Request::ListMessageMoveTasks {
             source: QueueArn::parse(members.required_text("SourceArn")?),
@@ -555,7 +556,7 @@ pub fn read(action: Action, members: &Map<'_>) -> Result<Request, SqsError> {
         Action::ListQueues => Request::ListQueues {
             prefix: members.text("QueueNamePrefix")?.unwrap_or_default().into(),
             most: members.number("MaxResults", 1, 1000)?,
-            after: members.text("NextToken")?.unwrap_or_default().into(),
+            after: members.text("NextToken")?.map_or(Ok(String::new()), name_before)?,
         },
         Action::PurgeQueue => Request::PurgeQueue { queue: queue()? },
         Action::ReceiveMessage => {
