@@ -30,8 +30,7 @@ const STEP: Duration = Duration::from_millis(5);
 impl Clock {
     /// A clock that begins at the wall clock.
     pub fn new() -> Clock {
-        let wall = SystemTime::now().duration_since(UNIX_EPOCH).unwrap_or_default().as_millis();
-        let offset = AtomicI64::new(wall as i64 - since_boot());
+        let offset = AtomicI64::new(wall() - since_boot());
         Clock { source: Source::SinceBoot, offset, last: AtomicU64::new(0) }
     }
 
@@ -64,6 +63,15 @@ impl Clock {
         self.last.fetch_max(moment, Ordering::Relaxed);
     }
 
+    /// How far it is ahead of the clock of this machine, since time never goes back.
+    pub fn lead(&self) -> Duration {
+        let of_machine = match &self.source {
+            Source::SinceBoot => wall(),
+            Source::File(path) => read_number(path).unwrap_or(0),
+        };
+        Duration::from_millis(self.now().saturating_sub(of_machine.max(0) as Moment))
+    }
+
     /// It is that time, at that moment since the system's start, both in milliseconds: a chain's time counts, which may go
     /// slower or faster than the system's. What was told stays the least.
     pub fn follow(&self, time: Moment, since_start: u64) {
@@ -94,6 +102,10 @@ impl Default for Clock {
     }
 }
 
+fn wall() -> i64 {
+    SystemTime::now().duration_since(UNIX_EPOCH).unwrap_or_default().as_millis() as i64
+}
+
 fn since_boot() -> i64 {
     // A system without this clock has the one that stands still while it is suspended.
     let time = clock_gettime_dynamic(DynamicClockId::Boottime).unwrap_or_else(|_| clock_gettime(ClockId::Monotonic));
@@ -118,6 +130,9 @@ mod tests {
         assert!((first + 3_600_000..first + 3_660_000).contains(&later));
         std::thread::sleep(Duration::from_millis(20));
         assert!(clock.now() > later, "time isn't held until the wall clock has caught up");
+        let lead = clock.lead();
+        assert!((3_590..3_610).contains(&lead.as_secs()), "{lead:?}");
+        assert!(Clock::new().lead() < Duration::from_secs(10));
     }
 
     #[test]

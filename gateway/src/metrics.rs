@@ -30,6 +30,7 @@ pub struct Metrics {
     lacked_room: IntCounter,
     restarts: IntCounter,
     answering: IntGauge,
+    clock_lead: IntGauge,
     lines_lost: IntCounter,
 }
 
@@ -131,6 +132,10 @@ impl Metrics {
                 "hobbychair_cq_answering",
                 "1 where cq answers, and 0 where the counts of messages are missing.",
             )?,
+            clock_lead: gauge(
+                "hobbychair_clock_lead_seconds",
+                "How far the clock is ahead of this machine's, since times never go back.",
+            )?,
             lines_lost: counter("hobbychair_log_lines_lost_total", "Lines of the log that nobody read in time.")?,
             restarts: counter("hobbychair_cq_restarts_total", "How often the program cq was started again.")?,
             registry,
@@ -191,6 +196,7 @@ impl Metrics {
         self.memory.set(figures.memory_bytes as i64);
         self.memory_bound.set(figures.memory_bound.unwrap_or(0) as i64);
         self.disk_short.set(figures.is_disk_short.into());
+        self.clock_lead.set(figures.clock_lead as i64);
         raise(&self.restarts, figures.restarts);
         raise(&self.lacked_room, figures.lacked_room);
     }
@@ -226,8 +232,9 @@ mod tests {
         let poll = metrics.poll();
         let messages = [Counts { queue: "a.fifo".into(), visible: 3, in_flight: 1, delayed: 2, set_aside: 1 }];
         let (queues, memory_bytes, memory_bound, is_disk_short) = (1, 2, None, true);
+        let (lacked_room, restarts, clock_lead, open) = (7, 4, 61, 9);
         let figures =
-            Figures { queues, memory_bytes, memory_bound, is_disk_short, lacked_room: 7, restarts: 4, open: 9 };
+            Figures { queues, memory_bytes, memory_bound, is_disk_short, lacked_room, restarts, clock_lead, open };
         let text = String::from_utf8(metrics.text(&messages, Some(&figures)).unwrap()).unwrap();
         for line in [
             "hobbychair_requests_total{action=\"SendMessage\",status=\"200\"} 1",
@@ -246,6 +253,7 @@ mod tests {
             "hobbychair_cluster_disk_short 1",
             "hobbychair_journal_full_total 7",
             "hobbychair_cq_restarts_total 4",
+            "hobbychair_clock_lead_seconds 61",
         ] {
             assert!(text.lines().any(|found| found == line), "{line}");
         }

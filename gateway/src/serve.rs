@@ -352,6 +352,7 @@ async fn begin_kept(
         kept.files.push(file);
     }
     clock.go_on_from(last);
+    tell_lead(clock);
     if entries > 0 {
         say(&format!("took up {entries} requests of the journal"));
     }
@@ -388,9 +389,25 @@ async fn begin_beside_node(settings: &Settings, tables: (&Arc<Clock>, &Arc<Queue
     let made = store::wait_beside_node(making, &mut cq, &mut node, (clock, &far)).await?;
     made.context("the store of the head")?;
     clock.go_on_from(last);
+    tell_lead(clock);
     queues.names().wait_from(clock.now());
     let kept = Kept { files: Vec::new(), begun: vec![number], entries: Vec::new() };
     Ok(Begun { cqs: vec![cq], node: Some(node), kept: Some(kept), last, _lock: None })
+}
+
+/// A clock that is ahead of this machine's by more is told of.
+const WORTH_TELLING: Duration = Duration::from_secs(60);
+
+/// Times never go back, so a gateway that once ran with a clock far ahead leaves its times to all later ones.
+fn tell_lead(clock: &Clock) {
+    let lead = clock.lead();
+    if lead > WORTH_TELLING {
+        tracing::warn!(
+            "the clock is {} s ahead of this machine's: the last request that is kept is as late. Clients are told times that are so \
+             much too late, until this machine's clock has come there",
+            lead.as_secs()
+        );
+    }
 }
 
 fn begin_without_journal(settings: &Settings) -> Result<Begun> {

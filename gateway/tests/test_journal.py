@@ -12,6 +12,9 @@ import pytest
 
 from conftest import new_name
 from started import START, ByBoto3, ByJson, Refused, Started, command, environment
+from test_operations import get, metric
+
+LEAD = "hobbychair_clock_lead_seconds"
 
 
 @pytest.fixture
@@ -251,6 +254,28 @@ def test_a_lock_that_is_a_link_is_refused_and_what_is_behind_it_stays(tmp_path, 
     assert ended.returncode == 1 and ended.stderr == f"hobbychair: {lock}: {why}\n"
     assert victim.read_text() == "kept" and mode(victim) == 0o644 and not (tmp_path / "nothing").exists()
     assert sorted(file.name for file in tmp_path.glob("journal*")) == ["journal.lock"]
+
+
+def test_a_clock_that_is_far_ahead_of_the_machines_is_told(tmp_path):
+    """One start whose clock was wrong leaves its times to all later ones."""
+    year = 366 * 86_400_000
+    gateway = Started("--journal", str(tmp_path / "journal"), "--admin", "0", room=tmp_path, errors=tmp_path / "errors")
+    admin = gateway.said[0].split()[-1]
+    assert "ahead" not in (tmp_path / "errors").read_text() and metric(get(admin + "/metrics")[1], LEAD) == 0
+    gateway.set_clock(START + year)
+    call = ByBoto3(gateway.client())
+    call("CreateQueue", QueueName="q", Attributes={})
+    assert gateway.stop() == 0
+    gateway.set_clock(START + 60_000)
+    gateway.start()
+    told = (tmp_path / "errors").read_text()
+    assert f"the clock is {(year - 60_000) // 1000} s ahead of this machine's" in told
+    assert metric(get(gateway.said[0].split()[-1] + "/metrics")[1], LEAD) == (year - 60_000) // 1000
+    assert gateway.stop() == 0
+    gateway.set_clock(START + year - 59_000)
+    gateway.start()
+    assert "ahead" not in (tmp_path / "errors").read_text()
+    assert gateway.stop() == 0
 
 
 def test_no_line_of_the_log_has_a_body(tmp_path):

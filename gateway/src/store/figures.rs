@@ -18,6 +18,8 @@ pub struct Figures {
     pub lacked_room: u64,
     /// How often a program `cq` that had ended was started again.
     pub restarts: u64,
+    /// How far the clock is ahead of this machine's, in whole seconds.
+    pub clock_lead: u64,
     /// Requests that were asked and aren't answered by the store. Polls between two tries don't count.
     pub open: usize,
 }
@@ -68,6 +70,7 @@ impl Store {
             is_disk_short: self.admission.is_disk_short(),
             lacked_room: self.counters.lacked_room.load(Ordering::Relaxed),
             restarts: self.counters.restarts.load(Ordering::Relaxed),
+            clock_lead: self.clock.lead().as_secs(),
             open: self.counters.open.load(Ordering::Relaxed),
         }
     }
