@@ -345,8 +345,9 @@ class ServedFaults(Faults):
                 self.touch_all(seconds + 4)
 
     def cut_from_fronts(self) -> None:
+        """Behind ten seconds of it the head is given up, if another gateway stands ready."""
         if node := self.good_head():
-            seconds = self.random.choice([1, 3, 6, 10])
+            seconds = self.random.choice([1, 3, 6, 10, 25])
             if self.cut(self.cuts.from_fronts(node), node, seconds, "the gateway that acts cut from the fronts", bites=False):
                 self.touch_all(seconds + 4)
 

@@ -101,6 +101,8 @@ def play(room: Path, plan: Plan, network: Network | Loopback, disks: Disks | Non
     try:
         work = Work(served)
         work.goes_on()
+        # So that faults know a chain also where the first one leaves etcd without a quorum.
+        wait(30, lambda: cluster.chain(), "etcd tells no chain")
         begun = time.monotonic()
         play_faults(faults, plan.size)
         heal(cluster, faults, plan.size)
