@@ -368,6 +368,30 @@ def narrow(tmp_path, request) -> Iterator[Served]:
         one.end()
 
 
+def fill(calls: Calls, queue: str, first: int) -> list[int]:
+    """Opens polls, by calls from that number on, until no call finds a place. It tells the polls' numbers."""
+    polls = []
+    for number in itertools.count(first, 2):
+        polls.append(number)
+        calls.tell(asking(number, "ReceiveMessage", QueueUrl=queue, WaitTimeSeconds=20))
+        if calls.ask(number + 1, "ListQueues").status == 503:
+            return polls
+
+
+def fill_all(calls: Calls, queue: str, numbers: Iterator[int], count: int) -> list[int]:
+    """The same once so many places are free: one is given back a moment after its call was answered or given up."""
+    polls: list[int] = []
+
+    def has_filled() -> bool:
+        nonlocal polls
+        calls.tell(b"".join(map(gone, polls)))
+        polls = fill(calls, queue, next(numbers))
+        return len(polls) == count
+
+    wait(5, has_filled, "places aren't given back")
+    return polls
+
+
 @pytest.mark.parametrize("narrow", [8], indirect=True)
 def test_more_calls_than_connections_are_turned_away_and_those_before_are_answered(narrow):
     queue = narrow.queue("q")
@@ -387,21 +411,14 @@ def test_more_calls_than_connections_are_turned_away_and_those_before_are_answer
         got = [calls.answer(number).members()["Messages"] for number in range(1, 6)]
         got += [other.answer(number).members()["Messages"] for number in range(6, 9)]
         assert sorted(message["Body"] for [message] in got) == [str(number) for number in range(8)]
-        # Places of calls that are given up are given back.
-        for first in (1000, 2000, 3000):
-            numbers = range(first, first + 8)
-            calls.tell(b"".join(asking(number, "ReceiveMessage", QueueUrl=queue, WaitTimeSeconds=20) for number in numbers))
-            time.sleep(0.2)
-            assert calls.ask(first + 8, "ListQueues").status == 503
-            calls.tell(b"".join(map(gone, numbers)))
-            time.sleep(0.2)
-            assert calls.ask(first + 9, "ListQueues").status == 200
+        # Places of calls that are answered or given up are given back.
+        numbers = itertools.count(1000, 100)
+        for _ in range(3):
+            calls.tell(b"".join(map(gone, fill_all(calls, queue, numbers, 8))))
         with Calls(port_of(narrow)) as third:
-            third.tell(b"".join(polls))
-            time.sleep(0.2)
-            assert calls.ask(9000, "ListQueues").status == 503
-        time.sleep(0.2)
-        assert calls.ask(9001, "ListQueues").status == 200
+            fill_all(third, queue, itertools.count(1000, 100), 8)
+            assert calls.ask(next(numbers), "ListQueues").status == 503
+        fill_all(calls, queue, numbers, 8)
 
 
 @pytest.mark.parametrize("narrow", [8], indirect=True)
