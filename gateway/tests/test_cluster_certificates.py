@@ -397,7 +397,9 @@ def test_nor_whoever_is_shown_it_by_a_false_etcd(served, certificates, strange, 
             wait(10, lambda: begun in log.read_text(), "it doesn't begin")
             used = processor_time(process.pid)
             proxy.cut()
-            wait(5, lambda: TOO_MANY in log.read_text(), "not logged")
+            # (What a candidate writes of other things may name the same reason sooner.)
+            wait(5, lambda: any("no contact with etcd" in line and TOO_MANY in line for line in log.read_text().splitlines()),
+                 "not logged")
             if role == "front":
                 wait(5, lambda: "listening on " in log.read_text(), "it doesn't listen")
                 url = next(line.split()[-1] for line in log.read_text().splitlines() if line.startswith("listening on "))
