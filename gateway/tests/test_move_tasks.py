@@ -3,8 +3,8 @@
 from __future__ import annotations
 
 import json
-import signal
 import random
+import signal
 import socket
 import threading
 import time

@@ -363,8 +363,8 @@ pub record AsksKept (rows : List Row) (path : Text) (mebibytes : ℕ) (no_create
   pub is_told : one_of (codes "no-create") rows ≡ Some (codes "true") → no_create ≡ true
   pub is_not_told : one_of (codes "no-create") rows ≡ Some (codes "false") → no_create ≡ false
 
--- So it keeps a server where no journal is named, or the only one of a first chain with a journal in that file. Or it keeps the master of a first chain of so many servers, explains the lines of a script on so many, or of a live script, or
--- watches those of a session on so many.
+-- So it keeps a server where no journal is named, or the only one of a first chain with a journal in that file. Or it keeps the master of a
+-- first chain of so many servers, explains the lines of a script on so many, or of a live script, or watches those of a session on so many.
 abbrev pub AsksProcess : List Row → Invocation → Type 0
 AsksProcess rows (First id size) = AsksServer rows (First id size) × (first_of (codes "journal") rows ≡ None)
 AsksProcess rows (Joining id) = AsksServer rows (Joining id) × (first_of (codes "journal") rows ≡ None)
