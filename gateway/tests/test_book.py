@@ -253,7 +253,7 @@ def test_a_removal_is_told_in_a_book_that_was_begun_anew(tmp_path):
         call("TagQueue", QueueUrl="q", Tags={**large, "turn": str(turn)})
     data = lambda: b"".join(file.read_bytes() for file in tmp_path.glob("journal*"))
     # A removal's byte, and the length of the name, as an entry is kept (docs/JOURNAL.md).
-    wait_for(lambda: b"\x01\x01\x01\x02\x01\x0dbook1.fifo" in data())
+    wait_for(lambda: b"\x03\x04\x03\x02\x03\x0dbook1.fifo" in data())
     gateway.kill()
     gateway.start()
     with pytest.raises(Refused, match="QueueDeletedRecently"):

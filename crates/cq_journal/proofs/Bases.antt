@@ -83,8 +83,8 @@ module _ {D : Type 0} {g : Ghosts D} (p : ℕ) (old new : Journal D g) (changes 
         ∙ ap (λ (rs : List (List ℕ)). rs ++ more) (sym (records_more old.len ns p old_bytes))
 
 -- while the root changes from these places to those
-pub while_rewritten : (h len n m : ℕ) (ns bs old : List ℕ) → Each (λ k. k < NUMBER_LIMIT) ns → Each (λ k. k < NUMBER_LIMIT) bs → Each (λ k. h + h ≤ k) ns → Each (λ k. h + h ≤ k) bs
-    → root_of h old ≡ Some (numbered n (places_text ns)) → (c : List ℕ) → IsOldOrNew h old (numbered m (places_text bs)) c → HasEitherRecords h len (records_at len ns old) (records_at len bs old) c
+pub while_rewritten : {k k2 : ℕ} (h len n m : ℕ) (ns bs old : List ℕ) → Each (λ p. p < NUMBER_LIMIT) ns → Each (λ p. p < NUMBER_LIMIT) bs → Each (λ p. h + h ≤ p) ns → Each (λ p. h + h ≤ p) bs
+    → root_of h old ≡ Some (numbered n (k ∷ places_text ns)) → (c : List ℕ) → IsOldOrNew h old (numbered m (k2 ∷ places_text bs)) c → HasEitherRecords h len (records_at len ns old) (records_at len bs old) c
 while_rewritten h len n m ns bs old small small_b low low_b root c either = ⊎_elim
     (λ is. inl (kept_of h len n ns c small (is ∙ root) ∙ ap (λ (rs : List (List ℕ)). Some rs) (records_same h len old c either.behind ns low)))
     (λ is. inr (kept_of h len m bs c small_b is ∙ ap (λ (rs : List (List ℕ)). Some rs) (records_same h len old c either.behind bs low_b)))

@@ -12,7 +12,7 @@ use Rattle.cq_journal.specs.declared.number.TheConstants.{NUMBER_LIMIT}
 use Rattle.cq_journal.specs.Base.{HasEitherRecords}
 use Rattle.cq_journal.specs.Intact.{IsIntact}
 use Rattle.cq_journal.specs.Journal.{journal_device, journal_half, journal_places, journal_records, region_len, HasRegions, StaysJournal}
-use Rattle.cq_journal.specs.Regions.{Each, AreApart, HasRecords, kept, places_text, records_at}
+use Rattle.cq_journal.specs.Regions.{Each, AreApart, HasRecords, kept, regions_text, records_at}
 use Rattle.cq_journal.specs.Rests.{Rests}
 use Rattle.cq_journal.specs.Root.{IsRoot, root_number}
 use Rattle.cq_journal.specs.Roots.{root_of, numbered}
@@ -89,7 +89,7 @@ module _ {D : Type 0} {g : Ghosts D} where
           apart = subst (λ (k : ℕ). Each (λ n. AreApart k n new.growing) new.closed.items) (sym read.len)
               (subst (λ (gr : ℕ). Each (λ n. AreApart old.len n gr) new.closed.items) (sym read.growing) (subst (λ (ns : List ℕ). Each (λ n. AreApart old.len n old.growing) ns) (λ i. (sym read.closed i).items) q.apart));
           small = subst (λ (ns : List ℕ). Each (λ n. n < NUMBER_LIMIT) ns) (sym places_are) q.small;
-          names = λ now. (λ i. root_of (half i) (read.seen i)) ∙ q.names (honest now) ∙ (λ i. Some (numbered (sym number i) (places_text (sym places_are i))));
+          names = λ now. (λ i. root_of (half i) (read.seen i)) ∙ q.names (honest now) ∙ (λ i. Some (numbered (sym number i) (regions_text (sym read.torn i) (sym places_are i))));
         }
 
     pub stays_read : new.end ≡ old.end → root_number new.root ≡ root_number old.root → (IsTrue (g.is_honest (journal_device new)) → IsTrue (g.is_honest (journal_device old))) → IsRoot new.root → HasRegions old → StaysJournal old new

@@ -1,5 +1,5 @@
 -- Two halves of which one counts, while the other one is blanked and written.
-use Rattle.std.proofs.Common.{◌≡◌, ◌≢◌, ◌⊎◌, inl, inr, ⊎_elim, ℕ, zero, suc, ◌+◌, ◌-◌, ◌<◌, ◌≤◌, true, false, List, [], ◌∷◌, length, take, drop, refl, sym, ◌∙◌, ap, subst, arith, drop-drop, length-drop}
+use Rattle.std.proofs.Common.{◌≡◌, ◌≢◌, ◌⊎◌, inl, inr, ⊎_elim, ℕ, zero, suc, ◌+◌, ◌-◌, ◌<◌, ◌≤◌, true, false, List, [], ◌∷◌, ◌++◌, length, take, drop, refl, sym, ◌∙◌, ap, subst, arith, drop-drop, length-drop}
 use Rattle.std.specs.Prelude.{Bool, nat_lt, map, Option, Some, None, if◌then◌else◌}
 use Rattle.std.proofs.lemmas.Bool.{true≢false}
 use Rattle.std.proofs.lemmas.Bool.Decides.{nat_tests}
@@ -7,11 +7,21 @@ use Rattle.cq_disk.specs.Device.{Only}
 use Rattle.cq_disk.specs.Region.{part, Leaves, Beside, KeepsBeside}
 use Rattle.cq_disk.proofs.Parts.{whole_again}
 use Rattle.cq_records.specs.Frames.{text_of, frames, records, all_sound}
+use Rattle.cq_disk.specs.declared.device.TornWrites.{TornWrites}
+use Rattle.cq_disk.specs.declared.device.TornWrites.TheVariants.{OldOrNew, Any}
 use Rattle.cq_records.specs.Layout.{IsPrefixOf}
 use Rattle.cq_records.proofs.Outcomes.{none_damaged}
 use Rattle.cq_journal.specs.declared.number.TheConstants.{NUMBER_LIMIT}
 use Rattle.cq_journal.specs.Numbers.{number_of}
 use Rattle.cq_journal.specs.Roots.{first_of, number_in, later, half_of, root_of, numbered, HasSoundHalves, IsSameRoot, IsOldOrNew}
+
+abbrev tearing_as_number : TornWrites → ℕ
+tearing_as_number OldOrNew = 0
+tearing_as_number Any = 1
+
+-- so many frames of a batch, where nothing is supposed of torn writes
+pub any_prefix : (before batch : List (List ℕ)) (bytes : List ℕ) (many : ℕ) → frames bytes ≡ before ++ take many batch → IsPrefixOf Any before batch bytes
+any_prefix before batch bytes many is = record { many = many; frames = is; rest = λ same. absurd (omega (arith, ap tearing_as_number same)) }
 
 pub number_back : (n : ℕ) (text : List ℕ) → n < NUMBER_LIMIT → number_of (numbered n text) ≡ n
 number_back n text small = omega (arith, small)
@@ -151,7 +161,7 @@ module _ (h s : ℕ) (place : (s ≡ 0) ⊎ (s ≡ h)) where
           first_of_all : List (List ℕ) → Option (List ℕ)
           first_of_all = first_of
 
-      written : (c : List ℕ) → IsPrefixOf [] batch (part (h - s) h c) → (half_of (h - s) h c ≡ None) ⊎ (half_of (h - s) h c ≡ Some new)
+      written : {torn : TornWrites} (c : List ℕ) → IsPrefixOf torn [] batch (part (h - s) h c) → (half_of (h - s) h c ≡ None) ⊎ (half_of (h - s) h c ≡ Some new)
       written c prefix = ⊎_elim (λ none. inl (ap (λ (fs : List (List ℕ)). first_of (map text_of fs)) prefix.frames ∙ none)) (λ some. inr (ap (λ (fs : List (List ℕ)). first_of (map text_of fs)) prefix.frames ∙ some)) (prefix_is prefix.many batch one)
 
 pub turned_place : (h s : ℕ) → (s ≡ 0) ⊎ (s ≡ h) → (h - s ≡ 0) ⊎ (h - s ≡ h)
@@ -167,10 +177,10 @@ new_counts h s place n new c is before next =
     let higher : number_in (half_of (h - s) h c) ≡ n + 1 = ap number_in is ∙ next in
     counts h (h - s) (turned_place h s place) c (omega (arith, lower, higher)) ∙ is
 
-pub old_or_new : (h s : ℕ) (place : (s ≡ 0) ⊎ (s ≡ h)) (old : List ℕ) (n : ℕ) (current : number_in (half_of s h old) ≡ n) (other : number_in (half_of (h - s) h old) < n)
+pub old_or_new : {torn : TornWrites} (h s : ℕ) (place : (s ≡ 0) ⊎ (s ≡ h)) (old : List ℕ) (n : ℕ) (current : number_in (half_of s h old) ≡ n) (other : number_in (half_of (h - s) h old) < n)
     (new : List ℕ) (batch : List (List ℕ)) (one : map text_of batch ≡ new ∷ []) (next : number_of new ≡ n + 1) (sound : all_sound batch ≡ true) (c : List ℕ)
-    → IsPrefixOf [] batch (part (h - s) h c) → Beside (h - s) h old c → IsOldOrNew h old new c
-old_or_new h s place old n current other new batch one next sound c prefix beside =
+    → IsPrefixOf torn [] batch (part (h - s) h c) → Beside (h - s) h old c → IsOldOrNew h old new c
+old_or_new {torn} h s place old n current other new batch one next sound c prefix beside =
     let same = same_half h s place old c beside in
     record {
       root = ⊎_elim
@@ -179,7 +189,7 @@ old_or_new h s place old n current other new batch one next sound c prefix besid
           (written h s place old n current other new batch one next c prefix);
       behind = behind_kept h s place old c beside;
       long = beside.long;
-      sound = still_sound h s place old c beside (none_damaged [] batch (part (h - s) h c) refl sound prefix) (λ same. ⊎_elim
+      sound = still_sound h s place old c beside (none_damaged torn [] batch (part (h - s) h c) refl sound prefix) (λ same. ⊎_elim
           (λ none. absurd (omega (arith, ap number_in none, same, current, other)))
           (λ some. absurd (omega (arith, ap number_in some, next, same, current)))
           (written h s place old n current other new batch one next c prefix));

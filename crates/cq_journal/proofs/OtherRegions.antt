@@ -7,7 +7,7 @@ use Rattle.cq_records.specs.Layout.{IsLog}
 use Rattle.cq_journal.specs.declared.journal.Journal.{Journal}
 use Rattle.cq_journal.specs.declared.number.TheConstants.{NUMBER_LIMIT}
 use Rattle.cq_journal.specs.Journal.{journal_device, journal_half, journal_places, journal_records, IsJournal}
-use Rattle.cq_journal.specs.Regions.{Each, AreApart, places_text, records_at, HasRecords}
+use Rattle.cq_journal.specs.Regions.{Each, AreApart, regions_text, records_at, HasRecords}
 use Rattle.cq_journal.specs.Root.{IsRoot, root_number}
 use Rattle.cq_journal.specs.Roots.{root_of, numbered}
 use Rattle.cq_journal.specs.within.Outside.{IsOutside, ChangesOutside}
@@ -45,7 +45,7 @@ module _ {D : Type 0} {g : Ghosts D} (p : ℕ) (old new : Journal D g) (outside 
           small = subst (λ (ns : List ℕ). Each (λ n. n < NUMBER_LIMIT) ns) (sym places_are) q.small;
           names = λ honest.
               ap (λ (h : ℕ). root_of h new_bytes) changes.half ∙ root_apart (journal_half old) p old.len old_bytes new_bytes outside.behind changes.beside ∙ q.names (changes.honest honest)
-              ∙ (λ i. Some (numbered (sym changes.number i) (places_text (sym places_are i))));
+              ∙ (λ i. Some (numbered (sym changes.number i) (regions_text (sym changes.torn i) (sym places_are i))));
         };
         log = subst (λ (e : ℕ). IsLog (part new.growing new.len new_bytes) e) (sym changes.end) (subst (λ (bytes : List ℕ). IsLog bytes old.end) (sym part_is) journal.log);
       }
@@ -58,11 +58,12 @@ still_kept {g = g} p old outside journal honest c near =
     kept_blanked (journal_half old) old.len (root_number old.root) p (journal_places old) (g.seen (journal_device old)) c q.small outside.behind outside.apart (q.names honest) near
 
 -- the same bytes once more
-pub changes_on : {D : Type 0} {g : Ghosts D} (p : ℕ) (a b c : Journal D g) → ChangesOutside p a b → c.closed ≡ b.closed → c.growing ≡ b.growing → c.end ≡ b.end → c.len ≡ b.len → journal_half c ≡ journal_half b → root_number c.root ≡ root_number b.root
+pub changes_on : {D : Type 0} {g : Ghosts D} (p : ℕ) (a b c : Journal D g) → ChangesOutside p a b → c.closed ≡ b.closed → c.growing ≡ b.growing → c.torn ≡ b.torn → c.end ≡ b.end → c.len ≡ b.len → journal_half c ≡ journal_half b → root_number c.root ≡ root_number b.root
     → g.seen (journal_device c) ≡ g.seen (journal_device b) → (IsTrue (g.is_honest (journal_device c)) → IsTrue (g.is_honest (journal_device b))) → ChangesOutside p a c
-changes_on {g = g} p a b c first closed growing end len half number seen honest = record {
+changes_on {g = g} p a b c first closed growing torn end len half number seen honest = record {
   closed = closed ∙ first.closed;
   growing = growing ∙ first.growing;
+  torn = torn ∙ first.torn;
   end = end ∙ first.end;
   len = len ∙ first.len;
   half = half ∙ first.half;

@@ -4,13 +4,15 @@ use Rattle.std.specs.Prelude.{map, replicate, Some, get_or, true, ◌*◌, ◌/�
 use Rattle.std.proofs.lemmas.Bool.{and_from}
 use Rattle.std.proofs.lemmas.Bool.Decides.{nat_tests}
 use Rattle.cq_disk.specs.Region.{part, Beside}
-use Rattle.cq_records.specs.Frames.{text_of, frames, is_closed, records, has_no_zero, all_sound}
+use Rattle.cq_disk.specs.declared.device.TornWrites.{TornWrites}
+use Rattle.cq_disk.specs.declared.device.TornWrites.TheVariants.{OldOrNew, Any}
+use Rattle.cq_records.specs.Frames.{text_of, frames, is_closed, records, is_plain, all_sound}
 use Rattle.cq_records.specs.Layout.{IsPrefixOf}
 use Rattle.cq_journal.specs.declared.number.TheConstants.{NUMBER_LIMIT}
 use Rattle.cq_journal.specs.Numbers.{digits, number_of}
 use Rattle.cq_records.proofs.Frames.{of_zeros}
 use Rattle.cq_journal.specs.Roots.{first_of, later, root_of, numbered, IsOldOrNew}
-use Rattle.cq_journal.specs.Regions.{places_text, places_in, records_at, named_records, kept, Each, AreApart, AreSound, HasPrefixOf, HasRecords, AreClosed}
+use Rattle.cq_journal.specs.Regions.{places_text, regions_text, places_in, records_at, named_records, kept, Each, AreApart, AreSound, HasPrefixOf, HasRecords, AreClosed}
 
 -- ---- the places that a text names
 
@@ -79,7 +81,7 @@ records_more len [] g bytes = append-none (records (part g len bytes))
 records_more len (n ∷ ns) g bytes = ap (λ (xs : List (List ℕ)). records (part n len bytes) ++ xs) (records_more len ns g bytes) ∙ sym (append_assoc (records (part n len bytes)) (records_at len ns bytes) (records (part g len bytes)))
 
 -- what is kept where the root names these places
-pub kept_of : (half len number : ℕ) (ns : List ℕ) (bytes : List ℕ) → Each (λ n. n < NUMBER_LIMIT) ns → root_of half bytes ≡ Some (numbered number (places_text ns)) → kept half len bytes ≡ Some (records_at len ns bytes)
+pub kept_of : {k : ℕ} (half len number : ℕ) (ns : List ℕ) (bytes : List ℕ) → Each (λ n. n < NUMBER_LIMIT) ns → root_of half bytes ≡ Some (numbered number (k ∷ places_text ns)) → kept half len bytes ≡ Some (records_at len ns bytes)
 kept_of half len number ns bytes small root = ap (named_records len bytes) root ∙ ap (λ (ms : List ℕ). Some (records_at len ms bytes)) (places_back ns small)
 
 text_map : (k : ℕ) (fs : List (List ℕ)) → map text_of (take k fs) ≡ take k (map text_of fs)
@@ -92,8 +94,8 @@ text_append [] more = refl
 text_append (f ∷ fs) more = ap (λ (xs : List (List ℕ)). text_of f ∷ xs) (text_append fs more)
 
 -- While a batch is written into the region that grows, the journal's records are those from before and so many of the batch's.
-pub grows : (half len number g : ℕ) (ns : List ℕ) (old c : List ℕ) (batch : List (List ℕ)) → Each (λ n. n < NUMBER_LIMIT) (ns ++ g ∷ []) → Each (λ n. AreApart len n g) ns → half + half ≤ g
-    → root_of half old ≡ Some (numbered number (places_text (ns ++ g ∷ []))) → Beside g len old c → IsPrefixOf (frames (part g len old)) batch (part g len c)
+pub grows : {k : ℕ} {torn : TornWrites} (half len number g : ℕ) (ns : List ℕ) (old c : List ℕ) (batch : List (List ℕ)) → Each (λ n. n < NUMBER_LIMIT) (ns ++ g ∷ []) → Each (λ n. AreApart len n g) ns → half + half ≤ g
+    → root_of half old ≡ Some (numbered number (k ∷ places_text (ns ++ g ∷ []))) → Beside g len old c → IsPrefixOf torn (frames (part g len old)) batch (part g len c)
     → HasPrefixOf half len (records_at len (ns ++ g ∷ []) old) (map text_of batch) c
 grows half len number g ns old c batch small apart le root beside prefix =
     (prefix.many, kept_of half len number (ns ++ g ∷ []) c small (root_apart half g len old c le beside ∙ root) ∙ ap (λ (rs : List (List ℕ)). Some rs) same)
@@ -151,22 +153,26 @@ each_at P [] i each below = absurd (omega (arith, below))
 each_at P (m ∷ ns) zero each below = each.0
 each_at P (m ∷ ns) (suc i) each below = each_at P ns i each.1 (omega (arith, below))
 
--- five bytes a place, none of them zero
+-- five bytes a place, none of them 0 or 1
 pub places_long : (ns : List ℕ) → length (places_text ns) ≡ 5 * length ns
 places_long [] = refl
 places_long (n ∷ ns) = omega (arith, places_long ns)
 
-above_zero : (x : ℕ) → nat_le 1 (x + 1) ≡ true
-above_zero x = grind (arith, nat_tests)
+above_one : (x : ℕ) → nat_le 2 (x + 2) ≡ true
+above_one x = grind (arith, nat_tests)
 
-no_zero_digits : (n : ℕ) (rest : List ℕ) → has_no_zero rest ≡ true → has_no_zero (digits n ++ rest) ≡ true
-no_zero_digits n rest full =
-    and_from _ _ (above_zero (n % 255)) (and_from _ _ (above_zero (n / 255 % 255)) (and_from _ _ (above_zero (n / 65025 % 255))
-    (and_from _ _ (above_zero (n / 16581375 % 255)) (and_from _ _ (above_zero (n / 4228250625)) full))))
+plain_digits : (n : ℕ) (rest : List ℕ) → is_plain rest ≡ true → is_plain (digits n ++ rest) ≡ true
+plain_digits n rest full =
+    and_from _ _ (above_one (n % 254)) (and_from _ _ (above_one (n / 254 % 254)) (and_from _ _ (above_one (n / 64516 % 254))
+    (and_from _ _ (above_one (n / 16387064 % 254)) (and_from _ _ (above_one (n / 4162314256)) full))))
 
-pub no_zero_places : (ns : List ℕ) → has_no_zero (places_text ns) ≡ true
-no_zero_places [] = refl
-no_zero_places (n ∷ ns) = no_zero_digits n (places_text ns) (no_zero_places ns)
+pub plain_places : (ns : List ℕ) → is_plain (places_text ns) ≡ true
+plain_places [] = refl
+plain_places (n ∷ ns) = plain_digits n (places_text ns) (plain_places ns)
+
+pub plain_text : (torn : TornWrites) (ns : List ℕ) → is_plain (regions_text torn ns) ≡ true
+plain_text OldOrNew ns = plain_places ns
+plain_text Any ns = plain_places ns
 
 -- ---- one more region
 
@@ -192,7 +198,7 @@ module _ (h len : ℕ) (old c : List ℕ) (same : drop (h + h) c ≡ drop (h + h
   records_same (n ∷ ns) low = λ i. (ap records (part_same n low.0) i) ++ (records_same ns low.1 i)
 
 -- while a region that the root doesn't name is blanked
-pub kept_blanked : (h len number p : ℕ) (places old c : List ℕ) → Each (λ n. n < NUMBER_LIMIT) places → h + h ≤ p → Each (λ n. AreApart len n p) places → root_of h old ≡ Some (numbered number (places_text places)) → Beside p len old c
+pub kept_blanked : {k : ℕ} (h len number p : ℕ) (places old c : List ℕ) → Each (λ n. n < NUMBER_LIMIT) places → h + h ≤ p → Each (λ n. AreApart len n p) places → root_of h old ≡ Some (numbered number (k ∷ places_text places)) → Beside p len old c
     → HasRecords h len (records_at len places old) c
 kept_blanked h len number p places old c small low_p apart root near =
     kept_of h len number places c small (root_apart h p len old c low_p near ∙ root) ∙ ap (λ (xs : List (List ℕ)). Some xs) (records_apart len p places old c apart near)
@@ -209,22 +215,22 @@ records_kept h len p places old mid c low low_p apart beside zeros same =
     none = ap records (part_same h len mid c same p low_p ∙ zeros) ∙ ap (map text_of) (of_zeros len)
 
 -- The region at p is blanked, which the root doesn't name, and then named behind the others.
-module _ (h len number p : ℕ) (places old mid : List ℕ) (small : Each (λ n. n < NUMBER_LIMIT) places) (small_p : p < NUMBER_LIMIT)
+module _ {k : ℕ} (h len number p : ℕ) (places old mid : List ℕ) (small : Each (λ n. n < NUMBER_LIMIT) places) (small_p : p < NUMBER_LIMIT)
     (low : Each (λ n. h + h ≤ n) places) (low_p : h + h ≤ p) (apart : Each (λ n. AreApart len n p) places)
-    (root : root_of h old ≡ Some (numbered number (places_text places))) (beside : Beside p len old mid) (zeros : part p len mid ≡ replicate len 0) where
+    (root : root_of h old ≡ Some (numbered number (k ∷ places_text places))) (beside : Beside p len old mid) (zeros : part p len mid ≡ replicate len 0) where
   abbrev pub rs : List (List ℕ)
   rs = records_at len places old
 
-  pub mid_root : root_of h mid ≡ Some (numbered number (places_text places))
+  pub mid_root : root_of h mid ≡ Some (numbered number (k ∷ places_text places))
   mid_root = root_apart h p len old mid low_p beside ∙ root
 
-  pub while_named : (m : ℕ) (c : List ℕ) → IsOldOrNew h mid (numbered m (places_text (places ++ p ∷ []))) c → HasRecords h len rs c
-  while_named m c either = ⊎_elim as_old as_new either.root
+  pub while_named : {k2 : ℕ} (m : ℕ) (c : List ℕ) → IsOldOrNew h mid (numbered m (k2 ∷ places_text (places ++ p ∷ []))) c → HasRecords h len rs c
+  while_named {k2} m c either = ⊎_elim as_old as_new either.root
     where
       as_old : root_of h c ≡ root_of h mid → HasRecords h len rs c
       as_old is = kept_of h len number places c small (is ∙ mid_root) ∙ ap (λ (xs : List (List ℕ)). Some xs) (records_same h len mid c either.behind places low ∙ records_apart len p places old mid apart beside)
 
-      as_new : root_of h c ≡ Some (numbered m (places_text (places ++ p ∷ []))) → HasRecords h len rs c
+      as_new : root_of h c ≡ Some (numbered m (k2 ∷ places_text (places ++ p ∷ []))) → HasRecords h len rs c
       as_new is = kept_of h len m (places ++ p ∷ []) c (each_more (λ n. n < NUMBER_LIMIT) places p small small_p) is ∙ ap (λ (xs : List (List ℕ)). Some xs) (records_kept h len p places old mid c low low_p apart beside zeros either.behind)
 
 -- ---- those before a place of a list

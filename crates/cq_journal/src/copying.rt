@@ -6,9 +6,10 @@ ghost use Rattle.cq_records.specs.Frames.{records};
 ghost use Rattle.cq_journal.specs.Base.{HasEitherRecords};
 ghost use Rattle.cq_journal.specs.Regions.{HasRecords, records_at};
 
+use crate::places::behind_of;
 use crate::{Base, Journal, OpenFault};
 use cq_disk::Device;
-use cq_records::Batch;
+use cq_records::{Batch, Behind};
 use std::alloc::Global;
 
 impl<D: Device> Journal<D> {
@@ -74,8 +75,8 @@ impl<D: Device> Journal<D> {
         ensures failed { IsErrOf result OpenFault.Failed → (D.faults (journal_device self.old) < D.faults (journal_device self.new)) ⊎ (E.faults (journal_device to.old) < E.faults (journal_device to.new)) }
     {
         self.copy_closed(alloc, to, base)?;
-        let place = self.growing;
-        self.copy_region(alloc, place, to, base)
+        let (place, behind) = (self.growing, behind_of(self.torn));
+        self.copy_region(alloc, place, behind, to, base)
     }
 
     /// Adds the records of the regions that don't grow.
@@ -103,18 +104,19 @@ impl<D: Device> Journal<D> {
         let mut at = 0;
         while at < self.closed.len() {
             let place = self.closed[at] as usize;
-            self.copy_region(alloc, place, to, base)?;
+            self.copy_region(alloc, place, Behind::Zeros, to, base)?;
             to.widen_base(alloc, base)?;
             at += 1;
         }
         Ok(())
     }
 
-    /// Adds the records of the region at this place.
+    /// Adds the records of the region at this place, the last one as a batch of its own.
     fn copy_region<E: Device>(
         &mut self,
         alloc: Global,
         place: usize,
+        behind: Behind,
         to: &mut Journal<E>,
         base: &mut Base,
     ) -> Result<(), OpenFault>
@@ -135,8 +137,11 @@ impl<D: Device> Journal<D> {
         ensures failed { IsErrOf result OpenFault.Failed → (D.faults (journal_device self.old) < D.faults (journal_device self.new)) ⊎ (E.faults (journal_device to.old) < E.faults (journal_device to.new)) }
     {
         let mut batch = Batch::new(alloc);
-        self.root.read_at(alloc, place, self.len, &mut batch)?;
+        self.root
+            .read_at(alloc, place, self.len, behind, &mut batch)?;
+        let last = batch.split_last(alloc)?;
         to.add_to_base(base, &batch)?;
+        to.add_to_base(base, &last)?;
         Ok(())
     }
 }

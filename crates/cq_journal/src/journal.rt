@@ -1,5 +1,6 @@
 //! Records in regions of one device, which its root names.
-ghost use Rattle.std.specs.Prelude.{◌≡◌, ◌++◌, ◌+◌, ◌<◌, ◌≤◌, [], true, length, Some, IsTrue, IfOk, OnOk, IsErrOf};
+ghost use Rattle.std.specs.Prelude.{◌≡◌, ◌++◌, ◌+◌, ◌<◌, ◌≤◌, [], true, false, length, Some, IsTrue, IfOk, OnOk, IsErrOf};
+ghost use Rattle.cq_disk.specs.declared.device.TornWrites.TheVariants.{OldOrNew};
 ghost use Rattle.cq_disk.specs.Device.{LeavesOnly};
 ghost use Rattle.cq_records.specs.Batch.{batch_bytes};
 ghost use Rattle.cq_records.specs.Frames.{records};
@@ -7,10 +8,9 @@ ghost use Rattle.cq_journal.specs.Intact.{IsIntact};
 ghost use Rattle.cq_journal.specs.Regions.{kept, HasPrefixOf, HasRecords};
 ghost use Rattle.cq_journal.specs.declared.base.Base.{Base};
 
-use crate::number::push_number;
-use crate::places::{are_apart, is_apart, with_next};
+use crate::places::{are_apart, is_apart, text_of, with_next};
 use crate::{NUMBER_LIMIT, Root, create};
-use cq_disk::Device;
+use cq_disk::{Device, TornWrites};
 use cq_records::{Batch, LogFault};
 use std::alloc::Global;
 
@@ -28,6 +28,8 @@ pub struct Journal<D: Device> {
     pub(crate) closed: Vec<u64>,
     /// The place of the region that grows.
     pub(crate) growing: usize,
+    /// What the root says is supposed of torn writes there.
+    pub(crate) torn: TornWrites,
     /// Where the log in that region ends.
     pub(crate) end: usize,
 }
@@ -49,8 +51,8 @@ impl<D: Device> Journal<D> {
         ensures intact { IfOk result (λ journal. IsIntact half len (D.seen (journal_device journal))) }
     {
         let place = half + half;
-        let mut text = Vec::new(alloc);
-        push_number(&mut text, place as u64)?;
+        let torn = device.torn_writes();
+        let text = text_of(alloc, torn, &[], place as u64)?;
         let mut root = create(alloc, device, half, &text)?;
         let whole = root.log.device.device.len();
         if whole < place || whole - place < len {
@@ -62,13 +64,14 @@ impl<D: Device> Journal<D> {
             len,
             closed: Vec::new(alloc),
             growing: place,
+            torn,
             end: 0,
         })
     }
 
     /// Adds the records of a batch. After `Ok` they are acknowledged: from then on each crash leaves a journal that has
-    /// them, behind all from before. `Full`: the region that grows has no room for them, and the journal has the records
-    /// from before. After another fault it is to be opened anew.
+    /// them, behind all from before. `Full`: the region that grows has no room for them, or isn't for batches that the device
+    /// may tear in any way; the journal has the records from before. After another fault it is to be opened anew.
     pub fn commit(&mut self, batch: &Batch) -> Result<(), LogFault>
         requires { IsJournal self.old }
 
@@ -95,9 +98,22 @@ impl<D: Device> Journal<D> {
         // A base under way stays as it is.
         ensures bases { (base : Base) → IsBase self.old base → IsBase self.new base × (base_records self.new base ≡ base_records self.old base) }
     {
+        if self.is_torn_otherwise() {
+            return Err(LogFault::Full);
+        }
         let done = self.root.commit_at(self.growing, self.len, self.end, batch);
         self.end = self.root.log.end;
         done
+    }
+
+    /// Whether the device may tear a batch in any way, where the root says that the region that grows has none such.
+    fn is_torn_otherwise(&self) -> bool
+        ensures { result ≡ false → self.now.torn ≡ OldOrNew → D.torn (journal_device self.now) ≡ OldOrNew }
+    {
+        match self.torn {
+            TornWrites::OldOrNew => self.root.log.device.device.torn_writes() == TornWrites::Any,
+            TornWrites::Any => false,
+        }
     }
 
     /// The device, to be handed on.
@@ -170,7 +186,14 @@ impl<D: Device> Journal<D> {
         ensures failed { IsErrOf result LogFault.Failed → D.faults (journal_device self.old) < D.faults (journal_device self.new) }
         ensures later { D.faults (journal_device self.old) ≤ D.faults (journal_device self.new) }
     {
-        let (closed, text) = with_next(alloc, &self.closed, self.growing as u64, place as u64)?;
+        let torn = self.root.log.device.device.torn_writes();
+        let (closed, text) = with_next(
+            alloc,
+            torn,
+            &self.closed,
+            self.growing as u64,
+            place as u64,
+        )?;
         if !self.root.has_room(&text) {
             return Err(LogFault::Full);
         }
@@ -178,6 +201,7 @@ impl<D: Device> Journal<D> {
         self.root.put_in_both(alloc, &text)?;
         self.closed = closed;
         self.growing = place;
+        self.torn = torn;
         self.end = 0;
         Ok(())
     }

@@ -1,6 +1,6 @@
 //! How a root is made.
 ghost use Rattle.std.specs.Prelude.{◌≡◌, ◌+◌, ◌<◌, ◌≤◌, true, length, Some, IfOk};
-ghost use Rattle.cq_records.specs.Frames.{has_no_zero};
+ghost use Rattle.cq_records.specs.Frames.{is_plain};
 ghost use Rattle.cq_journal.specs.Root.{root_half, root_device, root_number, IsRoot};
 ghost use Rattle.cq_journal.specs.Roots.{root_of, numbered, HasSoundHalves};
 
@@ -18,7 +18,7 @@ pub fn create<D: Device>(
     text: &[u8],
 ) -> Result<Root<D>, LogFault>
     requires room { half + half ≤ length (D.seen device) }
-    requires text { has_no_zero text.now ≡ true }
+    requires text { is_plain text.now ≡ true }
     requires short { length text.now ≤ ROOT_TEXT_LIMIT }
     ensures root { IfOk result (λ root. IsRoot root) }
     ensures half { IfOk result (λ root. root_half root ≡ half) }

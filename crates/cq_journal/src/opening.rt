@@ -16,7 +16,7 @@ use std::alloc::Global;
 /// How many digits a number has.
 const DIGITS: usize = 5;
 
-/// Where the places begin in a root's record, behind its number.
+/// Where the text begins in a root's record, behind its number: what is supposed of torn writes, and the places.
 const PLACES: usize = DIGITS;
 
 /// A root that was found in two halves: where the half in use begins, its number, and its record, which is the number

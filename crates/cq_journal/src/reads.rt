@@ -3,22 +3,24 @@ ghost use Rattle.std.specs.Prelude.{◌≡◌, ℕ, true, ◌⊎◌, ◌++◌, �
 ghost use Rattle.cq_disk.specs.Device.{LeavesOnly};
 ghost use Rattle.cq_disk.specs.Region.{part};
 ghost use Rattle.cq_records.specs.Batch.{batch_bytes};
-ghost use Rattle.cq_records.specs.Frames.{frames, is_closed, records, joined, all_sound, HasMore, IsDamaged};
+ghost use Rattle.cq_records.specs.Frames.{ends_with, frames, records, joined, all_sound, HasMore, IsDamaged};
 ghost use Rattle.cq_journal.specs.Root.{root_half, root_device, root_number, IsRoot};
 
 use crate::Root;
 use cq_disk::Device;
-use cq_records::{Batch, ReadFault, read_into, read_log};
+use cq_records::{Batch, Behind, ReadFault, read_into, read_log};
 use std::alloc::Global;
 
 impl<D: Device> Root<D> {
-    /// Adds the records of the region of this length at this place to a batch. The root is the same, and so is all that
+    /// Adds the records of the region of this length at this place to a batch. `Damaged`: one is, or something comes behind them that may
+    /// not. The root is the same, and so is all that
     /// is seen; a crash at any moment leaves just this.
     pub(crate) fn read_at(
         &mut self,
         alloc: Global,
         place: usize,
         len: usize,
+        behind: Behind,
         batch: &mut Batch,
     ) -> Result<(), ReadFault>
         requires root { IsRoot self.old }
@@ -29,7 +31,8 @@ impl<D: Device> Root<D> {
         ensures number { root_number self.new ≡ root_number self.old }
         ensures read { OnOk result (IsTrue (D.is_honest (root_device self.new)) → records (batch_bytes batch.new) ≡ records (batch_bytes batch.old) ++ records (part place len (D.seen (root_device self.old)))) }
         ensures length { OnOk result (length (batch_bytes batch.new) ≤ length (batch_bytes batch.old) + len) }
-        ensures damaged { IsErrOf result ReadFault.Damaged → IsTrue (D.is_honest (root_device self.new)) → all_sound (frames (part place len (D.seen (root_device self.old)))) ≡ false }
+        ensures damaged { IsErrOf result ReadFault.Damaged → IsTrue (D.is_honest (root_device self.new))
+            → (all_sound (frames (part place len (D.seen (root_device self.old)))) ≡ false) ⊎ (ends_with behind (part place len (D.seen (root_device self.old))) ≡ false) }
         ensures seen { D.seen (root_device self.new) ≡ D.seen (root_device self.old) }
         ensures any_moment { LeavesOnly D.moment D.left_since (root_device self.old) (root_device self.new)
             (λ c. c ≡ D.seen (root_device self.old)) }
@@ -43,7 +46,7 @@ impl<D: Device> Root<D> {
         self.log.device.len = 0;
         self.log.device.start = place;
         self.log.device.len = len;
-        let done = read_into(alloc, &mut self.log.device, batch);
+        let done = read_into(alloc, &mut self.log.device, behind, batch);
         self.log.device.len = 0;
         self.log.device.start = start;
         self.log.device.len = half;
@@ -52,14 +55,14 @@ impl<D: Device> Root<D> {
 
     /// Adds the texts of the records of the region of this length at this place to a text, one behind the other, and gives their number.
     /// Afterwards `at` is behind the last one that was added: after `Damaged`, where the damaged one begins in the region, or where
-    /// something else than zeros comes behind the records of one that doesn't grow. The root is the same, and so is all that is seen; a
+    /// something comes behind the records that may not. The root is the same, and so is all that is seen; a
     /// crash at any moment leaves just this.
     pub(crate) fn read_log_at(
         &mut self,
         alloc: Global,
         place: usize,
         len: usize,
-        grows: bool,
+        behind: Behind,
         at: &mut usize,
         text: &mut Vec<u8>,
     ) -> Result<usize, ReadFault>
@@ -72,12 +75,12 @@ impl<D: Device> Root<D> {
         ensures number { root_number self.new ≡ root_number self.old }
         ensures count { IfOk result (λ count. IsTrue (D.is_honest (root_device self.new)) → count ≡ length (records (part place len (D.seen (root_device self.old))))) }
         ensures read { OnOk result (IsTrue (D.is_honest (root_device self.new)) → text.new.items ≡ text.old.items ++ joined (records (part place len (D.seen (root_device self.old))))) }
-        ensures closed { OnOk result (IsTrue (D.is_honest (root_device self.new)) → grows ≡ false → is_closed (part place len (D.seen (root_device self.old))) ≡ true) }
+        ensures ends { OnOk result (IsTrue (D.is_honest (root_device self.new)) → ends_with behind (part place len (D.seen (root_device self.old))) ≡ true) }
         ensures at { at.new ≤ length (part place len (D.seen (root_device self.old))) }
         ensures damaged { IsErrOf result ReadFault.Damaged → IsTrue (D.is_honest (root_device self.new))
-            → IsDamaged (drop at.new (part place len (D.seen (root_device self.old)))) ⊎ ((grows ≡ false) × HasMore at.new (part place len (D.seen (root_device self.old)))) }
+            → IsDamaged (drop at.new (part place len (D.seen (root_device self.old)))) ⊎ HasMore behind at.new (part place len (D.seen (root_device self.old))) }
         ensures unsound { IsErrOf result ReadFault.Damaged → IsTrue (D.is_honest (root_device self.new))
-            → (all_sound (frames (part place len (D.seen (root_device self.old)))) ≡ false) ⊎ ((grows ≡ false) × (is_closed (part place len (D.seen (root_device self.old))) ≡ false)) }
+            → (all_sound (frames (part place len (D.seen (root_device self.old)))) ≡ false) ⊎ (ends_with behind (part place len (D.seen (root_device self.old))) ≡ false) }
         ensures seen { D.seen (root_device self.new) ≡ D.seen (root_device self.old) }
         ensures any_moment { LeavesOnly D.moment D.left_since (root_device self.old) (root_device self.new)
             (λ c. c ≡ D.seen (root_device self.old)) }
@@ -91,7 +94,7 @@ impl<D: Device> Root<D> {
         self.log.device.len = 0;
         self.log.device.start = place;
         self.log.device.len = len;
-        let done = read_log(alloc, &mut self.log.device, grows, at, text);
+        let done = read_log(alloc, &mut self.log.device, behind, at, text);
         self.log.device.len = 0;
         self.log.device.start = start;
         self.log.device.len = half;

@@ -11,7 +11,9 @@ ghost use Rattle.cq_journal.specs.Regions.{kept, HasRecords};
 ghost use Rattle.cq_journal.specs.Root.{root_half, root_device, root_number, IsRoot};
 ghost use Rattle.cq_journal.specs.Roots.{root_of};
 
-use crate::places::{are_apart, are_within, is_record_of, read_places, text_of};
+use crate::places::{
+    are_apart, are_within, behind_of, is_record_of, read_places, text_of, torn_in,
+};
 use crate::{Found, Journal, NUMBER_LIMIT, OpenFault, Root, read_root};
 use cq_disk::{Device, Region};
 use cq_records::Batch;
@@ -72,12 +74,13 @@ impl<D: Device> Journal<D> {
         ensures nothing { IsErrOf result OpenFault.NoJournal → ⊥ }
         ensures device { IfOk result (λ journal. (journal_device journal ≡ root_device root) × (journal_half journal ≡ root_half root) × (region_len journal ≡ len)) }
     {
+        let torn = torn_in(&found.bytes);
         let mut closed = read_places(alloc, &found.bytes)?;
         let Some(growing) = closed.pop() else {
             return Err(OpenFault::Damaged);
         };
         if root.number >= NUMBER_LIMIT
-            || !is_record_of(alloc, &found.bytes, root.number, &closed, growing)?
+            || !is_record_of(alloc, &found.bytes, root.number, torn, &closed, growing)?
         {
             return Err(OpenFault::Damaged);
         }
@@ -94,6 +97,7 @@ impl<D: Device> Journal<D> {
             len,
             closed,
             growing: growing as usize,
+            torn,
             end: 0,
         })
     }
@@ -162,18 +166,20 @@ impl<D: Device> Journal<D> {
         ensures nothing { IsErrOf result OpenFault.NoJournal → ⊥ }
         ensures failed { IsErrOf result OpenFault.Failed → D.faults (journal_device self.old) < D.faults (journal_device self.new) }
     {
-        let text = text_of(alloc, &self.closed, place as u64)?;
+        let torn = self.root.log.device.device.torn_writes();
+        let text = text_of(alloc, torn, &self.closed, place as u64)?;
         if !self.root.has_room(&text) {
             return Err(OpenFault::Full);
         }
         let end = self.copy_to(alloc, place)?;
         self.root.put_in_both(alloc, &text)?;
         self.growing = place;
+        self.torn = torn;
         self.end = end;
         Ok(())
     }
 
-    /// Writes the records of the region that grows into a free one, and gives the end of the log there.
+    /// Writes the records of the region that grows into a free one, the last one as a batch of its own, and gives the end of the log there.
     fn copy_to(&mut self, alloc: Global, place: usize) -> Result<usize, OpenFault>
         requires regions { HasRegions self.old }
         requires free { IsFree self.old place }
@@ -197,10 +203,11 @@ impl<D: Device> Journal<D> {
         ensures later { D.faults (journal_device self.old) ≤ D.faults (journal_device self.new) }
     {
         let mut batch = Batch::new(alloc);
+        let behind = behind_of(self.torn);
         self.root
-            .read_at(alloc, self.growing, self.len, &mut batch)?;
+            .read_at(alloc, self.growing, self.len, behind, &mut batch)?;
         self.root.blank_at(place, self.len)?;
-        self.root.commit_at(place, self.len, 0, &batch)?;
+        self.root.copy_at(alloc, place, self.len, 0, batch)?;
         Ok(self.root.log.end)
     }
 }

@@ -165,13 +165,15 @@ impl<D: Device> Journal<D> {
             growing,
             end,
         } = base;
-        let text = text_of(alloc, &closed, growing as u64)?;
+        let torn = self.root.log.device.device.torn_writes();
+        let text = text_of(alloc, torn, &closed, growing as u64)?;
         if !self.root.has_room(&text) {
             return Err(LogFault::Full);
         }
         self.root.put_in_both(alloc, &text)?;
         self.closed = closed;
         self.growing = growing;
+        self.torn = torn;
         self.end = end;
         Ok(())
     }

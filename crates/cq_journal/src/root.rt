@@ -1,7 +1,7 @@
 //! The root of a file: a text that is replaced as a whole.
 ghost use Rattle.std.specs.Prelude.{◌≡◌, ◌⊎◌, ◌+◌, ◌<◌, ◌≤◌, ◌^◌, [], ◌∷◌, true, false, length, drop, Some, IsTrue, IfOk, OnOk, IsErrOf};
 ghost use Rattle.cq_disk.specs.Device.{Only, LeavesOnly, HasCause};
-ghost use Rattle.cq_records.specs.Frames.{has_no_zero, records};
+ghost use Rattle.cq_records.specs.Frames.{is_plain, records};
 ghost use Rattle.cq_records.specs.Batch.{batch_bytes};
 ghost use Rattle.cq_journal.specs.Roots.{root_of, numbered};
 
@@ -12,7 +12,7 @@ use cq_records::{Batch, HEAD_LENGTH, Log, LogFault, blank};
 use std::alloc::{AllocError, Global};
 
 /// The most bytes that the text of a root may have: a record's, without those of its number.
-pub const ROOT_TEXT_LIMIT: usize = 16_581_369;
+pub const ROOT_TEXT_LIMIT: usize = 16_387_058;
 
 /// The bytes of a root's record before its text, with the head of its frame and its number.
 const RECORD_HEAD: usize = HEAD_LENGTH + 5;
@@ -30,7 +30,7 @@ pub struct Root<D: Device> {
 /// A batch of the record of this number and text.
 pub(crate) fn batch_of(alloc: Global, number: u64, text: &[u8]) -> Result<Batch, AllocError>
     requires number { number < NUMBER_LIMIT }
-    requires text { has_no_zero text.now ≡ true }
+    requires text { is_plain text.now ≡ true }
     requires short { length text.now ≤ ROOT_TEXT_LIMIT }
     ensures records { IfOk result (λ batch. records (batch_bytes batch) ≡ numbered number text.now ∷ []) }
     ensures length { IfOk result (λ batch. length (batch_bytes batch) ≡ length text.now + 14) }
@@ -85,7 +85,7 @@ impl<D: Device> Root<D> {
     /// fault the root is to be opened anew.
     pub fn put(&mut self, alloc: Global, text: &[u8]) -> Result<(), LogFault>
         requires root { IsRoot self.old }
-        requires text { has_no_zero text.now ≡ true }
+        requires text { is_plain text.now ≡ true }
         requires short { length text.now ≤ ROOT_TEXT_LIMIT }
 
         ensures root { OnOk result (IsRoot self.new) }
@@ -117,7 +117,7 @@ impl<D: Device> Root<D> {
     /// another fault the root is to be opened anew. Where only one number is left, one half has the text.
     pub fn put_in_both(&mut self, alloc: Global, text: &[u8]) -> Result<(), LogFault>
         requires root { IsRoot self.old }
-        requires text { has_no_zero text.now ≡ true }
+        requires text { is_plain text.now ≡ true }
         requires short { length text.now ≤ ROOT_TEXT_LIMIT }
 
         ensures root { OnOk result (IsRoot self.new) }

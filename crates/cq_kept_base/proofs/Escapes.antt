@@ -8,7 +8,8 @@ use Rattle.cq_lines.specs.Lines.{has_line_feed}
 use Rattle.cq_wire.specs.declared.fault.WireFault.{WireFault}
 use Rattle.cq_kept_base.specs.Stuffed.{escaped, put_before, unstuffed}
 use Rattle.cq_kept_base.specs.Stuffing.{StandsForItself, Stuffs, has_escape}
-use Rattle.memchr.specs.Find.{Nowhere, Passes, is_byte3}
+use Rattle.cq_records.proofs.Frames.{take_take}
+use Rattle.memchr.specs.Find.{Nowhere, Passes, is_byte, is_byte3}
 
 pub put_both : (a b : List ℕ) (read : Result (List ℕ) WireFault) → put_before a (put_before b read) ≡ put_before (a ++ b) read
 put_both a b (Ok more) = ap (λ (l : List ℕ). Ok l) (sym (append_assoc a b more))
@@ -61,10 +62,10 @@ chosen : {A : Type 0} (b : Bool) (x y : A) → b ≡ false → cond b x y ≡ y
 chosen true x y is = absurd cc
 chosen false x y is = refl
 
-pub plain_reads : (b : ℕ) (more : List ℕ) → nat_eq b 1 ≡ false → unstuffed false (b ∷ more) ≡ put_before (b ∷ []) (unstuffed false more)
-plain_reads b more is = chosen (nat_eq b 1) (unstuffed true more) (put_before (b ∷ []) (unstuffed false more)) is
+pub plain_reads : (b : ℕ) (more : List ℕ) → nat_eq b 3 ≡ false → unstuffed false (b ∷ more) ≡ put_before (b ∷ []) (unstuffed false more)
+plain_reads b more is = chosen (nat_eq b 3) (unstuffed true more) (put_before (b ∷ []) (unstuffed false more)) is
 
-pub escape_reads : (b : ℕ) (more : List ℕ) → nat_eq b 1 ≡ true → unstuffed false (b ∷ more) ≡ unstuffed true more
+pub escape_reads : (b : ℕ) (more : List ℕ) → nat_eq b 3 ≡ true → unstuffed false (b ∷ more) ≡ unstuffed true more
 escape_reads b more is = ap (λ (c : Bool). cond c (unstuffed true more) (put_before (b ∷ []) (unstuffed false more))) is
 
 pub clean_plain : (b : ℕ) → nat_eq b 10 ≡ false → has_line_feed (b ∷ []) ≡ false
@@ -73,33 +74,38 @@ clean_plain b is = either (nat_eq b 10) false is refl
 -- an escaped byte for so many zeros
 pub zeros_are : (more : ℕ) → escaped (10 + 1 + more) ≡ 0 ∷ zeros more
 zeros_are more =
-    let one : nat_eq (10 + 1 + more) 1 ≡ false = grind (arith, nat_tests) in
+    let three : nat_eq (10 + 1 + more) 3 ≡ false = grind (arith, nat_tests) in
     let two : nat_eq (10 + 1 + more) 2 ≡ false = grind (arith, nat_tests) in
+    let four : nat_eq (10 + 1 + more) 4 ≡ false = grind (arith, nat_tests) in
     let left : 10 + 1 + more - 10 ≡ suc more = omega arith in
-    chosen (nat_eq (10 + 1 + more) 1) (1 ∷ []) (cond (nat_eq (10 + 1 + more) 2) (10 ∷ []) (replicate (10 + 1 + more - 10) 0)) one
-    ∙ chosen (nat_eq (10 + 1 + more) 2) (10 ∷ []) (replicate (10 + 1 + more - 10) 0) two ∙ ap zeros left
+    chosen (nat_eq (10 + 1 + more) 3) (3 ∷ []) (cond (nat_eq (10 + 1 + more) 2) (10 ∷ []) (cond (nat_eq (10 + 1 + more) 4) (1 ∷ []) (replicate (10 + 1 + more - 10) 0))) three
+    ∙ chosen (nat_eq (10 + 1 + more) 2) (10 ∷ []) (cond (nat_eq (10 + 1 + more) 4) (1 ∷ []) (replicate (10 + 1 + more - 10) 0)) two
+    ∙ chosen (nat_eq (10 + 1 + more) 4) (1 ∷ []) (replicate (10 + 1 + more - 10) 0) four ∙ ap zeros left
 
-zeros_clean : (more : ℕ) → has_line_feed (1 ∷ (10 + 1 + more) ∷ []) ≡ false
+zeros_clean : (more : ℕ) → has_line_feed (3 ∷ (10 + 1 + more) ∷ []) ≡ false
 zeros_clean more =
     let other : nat_eq (10 + 1 + more) 10 ≡ false = grind (arith, nat_tests) in
     either (nat_eq (10 + 1 + more) 10) false other refl
 
-pub zeros_stuff : (text more_text : List ℕ) (more : ℕ) → more_text ≡ text ++ (1 ∷ (10 + 1 + more) ∷ []) → Stuffs text more_text (0 ∷ replicate more 0)
+pub zeros_stuff : (text more_text : List ℕ) (more : ℕ) → more_text ≡ text ++ (3 ∷ (10 + 1 + more) ∷ []) → Stuffs text more_text (0 ∷ replicate more 0)
 zeros_stuff text more_text more is = record {
-  unit = 1 ∷ (10 + 1 + more) ∷ [];
+  unit = 3 ∷ (10 + 1 + more) ∷ [];
   added = is;
   reads = λ rest. ap (λ (l : List ℕ). put_before l (unstuffed false rest)) (zeros_are more);
   clean = zeros_clean more;
 }
 
-pub plain_stuff : (text more_text : List ℕ) (b : ℕ) → nat_eq b 1 ≡ false → nat_eq b 10 ≡ false → more_text ≡ text ++ b ∷ [] → Stuffs text more_text (b ∷ [])
+pub plain_stuff : (text more_text : List ℕ) (b : ℕ) → nat_eq b 3 ≡ false → nat_eq b 10 ≡ false → more_text ≡ text ++ b ∷ [] → Stuffs text more_text (b ∷ [])
 plain_stuff text more_text b one other is = record { unit = b ∷ []; added = is; reads = λ rest. plain_reads b rest one; clean = clean_plain b other }
 
-pub one_stuff : (text more_text : List ℕ) → more_text ≡ text ++ 1 ∷ 1 ∷ [] → Stuffs text more_text (1 ∷ [])
-one_stuff text more_text is = record { unit = 1 ∷ 1 ∷ []; added = is; reads = λ rest. refl; clean = refl }
+pub one_stuff : (text more_text : List ℕ) → more_text ≡ text ++ 3 ∷ 4 ∷ [] → Stuffs text more_text (1 ∷ [])
+one_stuff text more_text is = record { unit = 3 ∷ 4 ∷ []; added = is; reads = λ rest. refl; clean = refl }
 
-pub line_feed_stuff : (text more_text : List ℕ) → more_text ≡ text ++ 1 ∷ 2 ∷ [] → Stuffs text more_text (10 ∷ [])
-line_feed_stuff text more_text is = record { unit = 1 ∷ 2 ∷ []; added = is; reads = λ rest. refl; clean = refl }
+pub escape_stuff : (text more_text : List ℕ) → more_text ≡ text ++ 3 ∷ 3 ∷ [] → Stuffs text more_text (3 ∷ [])
+escape_stuff text more_text is = record { unit = 3 ∷ 3 ∷ []; added = is; reads = λ rest. refl; clean = refl }
+
+pub line_feed_stuff : (text more_text : List ℕ) → more_text ≡ text ++ 3 ∷ 2 ∷ [] → Stuffs text more_text (10 ∷ [])
+line_feed_stuff text more_text is = record { unit = 3 ∷ 2 ∷ []; added = is; reads = λ rest. refl; clean = refl }
 
 -- the zeros that were counted, and the bytes behind them
 pub zeros_parts : (more : ℕ) (behind rest : List ℕ) → take more behind ≡ replicate more 0 → rest ≡ drop more behind → (0 ∷ replicate more 0) ++ rest ≡ 0 ∷ behind
@@ -115,25 +121,50 @@ neither true later none = absurd cc
 neither false later none = (refl, none)
 
 -- the byte is none of three
-others : (zero_here one_here feed_here : Bool) → ((zero_here || one_here || feed_here) ≡ true → ⊥) → (one_here ≡ false) × (feed_here ≡ false)
-others true one_here feed_here not = absurd (not refl)
-others false true feed_here not = absurd (not refl)
-others false false true not = absurd (not refl)
-others false false false not = (refl, refl)
+last_of_three : (zero_here one_here feed_here : Bool) → ((zero_here || one_here || feed_here) ≡ true → ⊥) → feed_here ≡ false
+last_of_three true one_here feed_here not = absurd (not refl)
+last_of_three false true feed_here not = absurd (not refl)
+last_of_three false false true not = absurd (not refl)
+last_of_three false false false not = refl
 
--- up to the first byte that doesn't
-pub plain_until : (bytes : List ℕ) (n : ℕ) → Nowhere (Passes (is_byte3 0 1 10) bytes) 0 n → n ≤ length bytes → StandsForItself (take n bytes)
-plain_until bytes zero nowhere within = record { no_escape = refl; no_line_feed = refl }
-plain_until [] (suc n) nowhere within = absurd (omega (arith, within))
-plain_until (b ∷ bytes) (suc n) nowhere within =
-    let here = others (nat_eq b 0) (nat_eq b 1) (nat_eq b 10) (nowhere 0 (omega arith) (omega arith)) in
-    let later = plain_until bytes n (λ k low high is. nowhere (suc k) (omega arith) (omega (arith, high)) is) (omega (arith, within)) in
-    record { no_escape = either (nat_eq b 1) (has_escape (take n bytes)) here.0 later.no_escape; no_line_feed = either (nat_eq b 10) (has_line_feed (take n bytes)) here.1 later.no_line_feed }
+none_here : (here : Bool) → (here ≡ true → ⊥) → here ≡ false
+none_here true not = absurd (not refl)
+none_here false not = refl
+
+-- up to the first byte that is a 0, a 1 or a line feed
+pub line_until : (bytes : List ℕ) (n : ℕ) → Nowhere (Passes (is_byte3 0 1 10) bytes) 0 n → n ≤ length bytes → has_line_feed (take n bytes) ≡ false
+line_until bytes zero nowhere within = refl
+line_until [] (suc n) nowhere within = absurd (omega (arith, within))
+line_until (b ∷ bytes) (suc n) nowhere within =
+    let here = last_of_three (nat_eq b 0) (nat_eq b 1) (nat_eq b 10) (nowhere 0 (omega arith) (omega arith)) in
+    let later = line_until bytes n (λ k low high is. nowhere (suc k) (omega arith) (omega (arith, high)) is) (omega (arith, within)) in
+    either (nat_eq b 10) (has_line_feed (take n bytes)) here later
+
+-- up to the first escape
+pub unescaped_until : (bytes : List ℕ) (n : ℕ) → Nowhere (Passes (is_byte 3) bytes) 0 n → n ≤ length bytes → has_escape (take n bytes) ≡ false
+unescaped_until bytes zero nowhere within = refl
+unescaped_until [] (suc n) nowhere within = absurd (omega (arith, within))
+unescaped_until (b ∷ bytes) (suc n) nowhere within =
+    let here = none_here (nat_eq b 3) (nowhere 0 (omega arith) (omega arith)) in
+    let later = unescaped_until bytes n (λ k low high is. nowhere (suc k) (omega arith) (omega (arith, high)) is) (omega (arith, within)) in
+    either (nat_eq b 3) (has_escape (take n bytes)) here later
+
+-- fewer of these bytes
+line_prefix : (n k : ℕ) (bytes : List ℕ) → n ≤ k → has_line_feed (take k bytes) ≡ false → has_line_feed (take n bytes) ≡ false
+line_prefix zero k bytes le line = refl
+line_prefix (suc n) zero bytes le line = absurd (omega (arith, le))
+line_prefix (suc n) (suc k) [] le line = refl
+line_prefix (suc n) (suc k) (b ∷ bytes) le line =
+    let parts = neither (nat_eq b 10) (has_line_feed (take k bytes)) line in
+    either (nat_eq b 10) (has_line_feed (take n bytes)) parts.0 (line_prefix n k bytes (omega (arith, le)) parts.1)
+
+pub plain_parts : (bytes : List ℕ) (n k : ℕ) → n ≤ k → has_line_feed (take k bytes) ≡ false → has_escape (take n (take k bytes)) ≡ false → StandsForItself (take n bytes)
+plain_parts bytes n k le line unescaped = record { no_escape = ap has_escape (sym (take_take n k bytes le)) ∙ unescaped; no_line_feed = line_prefix n k bytes le line }
 
 run_reads : (run more : List ℕ) → has_escape run ≡ false → unstuffed false (run ++ more) ≡ put_before run (unstuffed false more)
 run_reads [] more none = sym (put_none (unstuffed false more))
 run_reads (b ∷ run) more none =
-    let parts = neither (nat_eq b 1) (has_escape run) none in
+    let parts = neither (nat_eq b 3) (has_escape run) none in
     plain_reads b (run ++ more) parts.0 ∙ ap (λ r. put_before (b ∷ []) r) (run_reads run more parts.1) ∙ put_both (b ∷ []) run (unstuffed false more)
 
 pub run_stuff : (text more_text run : List ℕ) → StandsForItself run → more_text ≡ text ++ run → Stuffs text more_text run

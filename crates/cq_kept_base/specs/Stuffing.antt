@@ -11,9 +11,9 @@ pub record Stuffs (old new bytes : List ℕ) : Type 0 where
   pub reads : (more : List ℕ) → unstuffed false (unit ++ more) ≡ put_before bytes (unstuffed false more)
   pub clean : has_line_feed unit ≡ false
 
--- a byte of 1 is among them
+-- a byte of 3 is among them
 abbrev pub has_escape : List ℕ → Bool
-has_escape bytes = list_any (λ b. b == 1) bytes
+has_escape bytes = list_any (λ b. b == 3) bytes
 
 -- as a text they stand for themselves
 pub record StandsForItself (bytes : List ℕ) : Type 0 where

@@ -1,18 +1,22 @@
-//! Bytes as texts that have no 0 and no line feed.
+//! Bytes as texts that have no 0, no 1 and no line feed.
 ghost use Rattle.std.specs.Prelude.{◌≡◌, ◌≤◌, ◌<◌, ◌++◌, ◌∷◌, ℕ, List, false, length, take, replicate, OnOk, IfOk};
+ghost use Rattle.cq_lines.specs.Lines.{has_line_feed};
 ghost use Rattle.cq_wire.specs.Reading.{Gives};
 ghost use Rattle.cq_kept_base.specs.Stuffed.{escaped, put_before, unstuffed};
-ghost use Rattle.cq_kept_base.specs.Stuffing.{StandsForItself, Stuffs};
+ghost use Rattle.cq_kept_base.specs.Stuffing.{StandsForItself, Stuffs, has_escape};
 
 use cq_wire::{ReadFault, WireFault};
-use memchr::memchr3;
+use memchr::{memchr, memchr3};
 use std::alloc::{AllocError, Global};
 
 /// What says that the byte behind it is escaped.
-const ESCAPE: u8 = 1;
+const ESCAPE: u8 = 3;
 
 /// What stands for a line feed behind an escape.
 const LINE_FEED: u8 = 2;
+
+/// What stands for a 1 behind an escape.
+const ONE: u8 = 4;
 
 /// By how much the byte that stands for zeros is above their number.
 const ZEROS_ABOVE: u8 = 10;
@@ -46,6 +50,10 @@ fn push_first<'a>(text: &mut Vec<u8>, byte: u8, behind: &'a [u8]) -> Result<&'a 
             Ok(rest)
         }
         1 => {
+            text.extend_from_slice(&[ESCAPE, ONE])?;
+            Ok(behind)
+        }
+        3 => {
             text.extend_from_slice(&[ESCAPE, ESCAPE])?;
             Ok(behind)
         }
@@ -60,15 +68,35 @@ fn push_first<'a>(text: &mut Vec<u8>, byte: u8, behind: &'a [u8]) -> Result<&'a 
     }
 }
 
+/// How many bytes these begin with of which none is 0, 1 or a line feed.
+fn line_in_front(bytes: &[u8]) -> usize
+    ensures line { has_line_feed (take result bytes.now) ≡ false }
+    ensures within { result ≤ length bytes.now }
+{
+    match memchr3(0, 1, b'\n', bytes) {
+        Some(place) => place,
+        None => bytes.len(),
+    }
+}
+
+/// How many bytes these begin with of which none is an escape.
+fn unescaped_in_front(bytes: &[u8]) -> usize
+    ensures unescaped { has_escape (take result bytes.now) ≡ false }
+    ensures within { result ≤ length bytes.now }
+{
+    match memchr(ESCAPE, bytes) {
+        Some(place) => place,
+        None => bytes.len(),
+    }
+}
+
 /// How many bytes these begin with that stand for themselves.
 fn plain_in_front(bytes: &[u8]) -> usize
     ensures plain { StandsForItself (take result bytes.now) }
     ensures within { result ≤ length bytes.now }
 {
-    match memchr3(0, ESCAPE, b'\n', bytes) {
-        Some(place) => place,
-        None => bytes.len(),
-    }
+    let (line, _) = bytes.split_at(line_in_front(bytes));
+    unescaped_in_front(line)
 }
 
 /// Adds what stands for the first of these bytes, which are some: all that stand for themselves, and the next one, with the zeros behind
@@ -118,6 +146,10 @@ fn push_escaped(bytes: &mut Vec<u8>, byte: u8) -> Result<(), AllocError>
     }
     if byte == LINE_FEED {
         bytes.push(10)?;
+        return Ok(());
+    }
+    if byte == ONE {
+        bytes.push(1)?;
         return Ok(());
     }
     push_zeros(bytes, byte.saturating_sub(ZEROS_ABOVE) as usize)

@@ -4,7 +4,7 @@ use Rattle.std.specs.Prelude.{◌||◌, nat_eq, nat_le, not, get_or, is_some, sl
 use Rattle.std.proofs.lemmas.Bool.{and_parts, and_from, true≢false}
 use Rattle.std.proofs.lemmas.Bool.Decides.{nat_tests}
 use Rattle.memchr.specs.Find.{IsFirstByte, is_byte}
-use Rattle.cq_records.specs.Frames.{has_no_zero, is_text, joined}
+use Rattle.cq_records.specs.Frames.{is_plain, is_text, joined}
 use Rattle.cq_records.specs.declared.frame.TheConstants.{TEXT_LIMIT}
 use Rattle.cq_records.proofs.Frames.{joined_append}
 use Rattle.cq_kept_session.specs.Texts.{as_kept, has_mark, kept_byte}
@@ -18,18 +18,18 @@ kept_long : (bytes : List ℕ) → length (as_kept bytes) ≡ length bytes
 kept_long [] = refl
 kept_long (b ∷ bytes) = omega (arith, kept_long bytes)
 
-above_zero : (b : ℕ) → nat_le 1 (kept_byte b) ≡ true
-above_zero b = grind (arith, nat_tests)
+above_one : (b : ℕ) → nat_le 2 (kept_byte b) ≡ true
+above_one b = grind (arith, nat_tests)
 
 no_mark : (b : ℕ) → nat_eq (kept_byte b) 2 ≡ false
 no_mark b = grind (arith, nat_tests)
 
-zeros_gone : (bytes : List ℕ) → has_no_zero (as_kept bytes) ≡ true
-zeros_gone [] = refl
-zeros_gone (b ∷ bytes) = and_from _ _ (above_zero b) (zeros_gone bytes)
+low_gone : (bytes : List ℕ) → is_plain (as_kept bytes) ≡ true
+low_gone [] = refl
+low_gone (b ∷ bytes) = and_from _ _ (above_one b) (low_gone bytes)
 
 pub text_kept : (bytes : List ℕ) → length bytes ≤ TEXT_LIMIT → is_text (as_kept bytes) ≡ true
-text_kept bytes short = and_from _ _ (le-leb _ _ (omega (arith, kept_long bytes, short))) (zeros_gone bytes)
+text_kept bytes short = and_from _ _ (le-leb _ _ (omega (arith, kept_long bytes, short))) (low_gone bytes)
 
 pub unmarked_kept : (bytes : List ℕ) → has_mark (as_kept bytes) ≡ false
 unmarked_kept [] = refl
@@ -39,18 +39,18 @@ pub neither : (here later : Bool) → (here || later) ≡ false → (here ≡ fa
 neither true later none = absurd (true≢false none)
 neither false later none = (refl, none)
 
-same_above : (b : ℕ) → nat_le 1 b ≡ true → nat_eq b 2 ≡ false → kept_byte b ≡ b
+same_above : (b : ℕ) → nat_le 2 b ≡ true → nat_eq b 2 ≡ false → kept_byte b ≡ b
 same_above b above other = grind (arith, nat_tests)
 
-none_changed : (bytes : List ℕ) → has_no_zero bytes ≡ true → has_mark bytes ≡ false → as_kept bytes ≡ bytes
+none_changed : (bytes : List ℕ) → is_plain bytes ≡ true → has_mark bytes ≡ false → as_kept bytes ≡ bytes
 none_changed [] full unmarked = refl
 none_changed (b ∷ bytes) full unmarked =
-    let parts = and_parts (nat_le 1 b) (has_no_zero bytes) full in
+    let parts = and_parts (nat_le 2 b) (is_plain bytes) full in
     let both = neither (nat_eq b 2) (has_mark bytes) unmarked in
     λ i. (same_above b parts.0 both.0 i) ∷ (none_changed bytes parts.1 both.1 i)
 
 pub text_is_same : (bytes : List ℕ) → is_text bytes ≡ true → has_mark bytes ≡ false → as_kept bytes ≡ bytes
-text_is_same bytes is unmarked = none_changed bytes (and_parts (nat_le (length bytes) TEXT_LIMIT) (has_no_zero bytes) is).1 unmarked
+text_is_same bytes is unmarked = none_changed bytes (and_parts (nat_le (length bytes) TEXT_LIMIT) (is_plain bytes) is).1 unmarked
 
 pub kept_next : (bytes : List ℕ) (i : ℕ) → i < length bytes → as_kept (take (i + 1) bytes) ≡ as_kept (take i bytes) ++ kept_byte (get_or bytes i 0) ∷ []
 kept_next bytes i below = ap (λ (k : ℕ). as_kept (take k bytes)) next ∙ go bytes i below

@@ -7,10 +7,10 @@ pub record BaseExamples : Type 0 where
   -- two lines, of which the second one has begun
   pub lines_alone : read fresh (65 ∷ 10 ∷ 66 ∷ []) ≡ lined None (65 ∷ 10 ∷ 66 ∷ [])
   -- a base of three lines, whose clients have numbers up to 5, and no chunk yet
-  pub header : read fresh (2 ∷ 3 ∷ 1 ∷ 17 ∷ 5 ∷ 1 ∷ 17 ∷ 10 ∷ []) ≡ based [] (Some (record { lines = 3; highest = record { clients = 5; queriers = 0 } })) states.Empty
+  pub header : read fresh (2 ∷ 3 ∷ 3 ∷ 3 ∷ 17 ∷ 5 ∷ 3 ∷ 17 ∷ 10 ∷ []) ≡ based [] (Some (record { lines = 3; highest = record { clients = 5; queriers = 0 } })) states.Empty
   -- its first chunk has begun
-  pub chunk : read fresh (2 ∷ 3 ∷ 1 ∷ 17 ∷ 5 ∷ 1 ∷ 17 ∷ 10 ∷ 1 ∷ 1 ∷ []) ≡ based (1 ∷ 1 ∷ []) (Some (record { lines = 3; highest = record { clients = 5; queriers = 0 } })) states.Empty
+  pub chunk : read fresh (2 ∷ 3 ∷ 3 ∷ 3 ∷ 17 ∷ 5 ∷ 3 ∷ 17 ∷ 10 ∷ 3 ∷ 3 ∷ []) ≡ based (3 ∷ 3 ∷ []) (Some (record { lines = 3; highest = record { clients = 5; queriers = 0 } })) states.Empty
   -- no header is so short
   pub short : read fresh (2 ∷ 3 ∷ 10 ∷ []) ≡ bad
   -- a base has a store
-  pub without_store : read fresh (2 ∷ 3 ∷ 1 ∷ 17 ∷ 5 ∷ 1 ∷ 17 ∷ 10 ∷ 10 ∷ []) ≡ bad
+  pub without_store : read fresh (2 ∷ 3 ∷ 3 ∷ 3 ∷ 17 ∷ 5 ∷ 3 ∷ 17 ∷ 10 ∷ 10 ∷ []) ≡ bad

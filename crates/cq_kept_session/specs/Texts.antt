@@ -3,9 +3,9 @@ use Rattle.std.specs.Prelude.{ℕ, ◌-◌, Bool, List, [], ◌∷◌, ◌++◌,
 use Rattle.std.specs.List.{list_any}
 use Rattle.cq_records.specs.Frames.{joined}
 
--- What is kept in the place of a byte: 1 for 0, which no record can have, and for 2, with which a base begins.
+-- What is kept in the place of a byte: 3 for 0 and 1, which no record can have, and for 2, with which a base begins.
 abbrev pub kept_byte : ℕ → ℕ
-kept_byte b = if nat_le b 2 then 1 else b
+kept_byte b = if nat_le b 2 then 3 else b
 
 abbrev pub as_kept : List ℕ → List ℕ
 as_kept [] = []

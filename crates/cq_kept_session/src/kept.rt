@@ -46,7 +46,7 @@ impl<D: Device> KeptSession<D> {
     ghost use Rattle.cq_kept_session.specs.within.Settled.{IsSettled};
 
     /// Takes what one read brought: keeps it, runs the lines that end in it, writes what comes of them, and flushes it. Nothing is
-    /// written before all that it rests on is on the medium. A byte of 0 or 2 is kept and run as a byte of 1: a line with any of
+    /// written before all that it rests on is on the medium. A byte of 0, 1 or 2 is kept and run as a byte of 3: a line with any of
     /// them is a bad one. `NotKept(Full)`: there is no space, and the session goes on without the chunk. After any other fault it is to be
     /// opened anew. It takes memory for two copies of the chunk, and what its lines take.
     pub fn take<W: Sink>(&mut self, chunk: &[u8], writer: &mut W) -> Result<(), TakeFault>

@@ -10,7 +10,7 @@ use std::alloc::{AllocError, Global};
 /// The byte with which a base begins.
 pub(crate) const MARK: u8 = 2;
 
-/// Bytes with 1 in the place of each 0, which no record can have, and of each 2, with which a base begins. A line with any of them
+/// Bytes with 3 in the place of each 0 and 1, which no record can have, and of each 2, with which a base begins. A line with any of them
 /// is a bad line.
 pub(crate) fn as_kept(alloc: Global, bytes: &[u8]) -> Result<Vec<u8>, AllocError>
     requires { length bytes.now ≤ TEXT_LIMIT }
@@ -28,7 +28,7 @@ pub(crate) fn as_kept(alloc: Global, bytes: &[u8]) -> Result<Vec<u8>, AllocError
 fn kept_byte(byte: u8) -> u8
     ensures { result ≡ kept_byte byte }
 {
-    if byte <= MARK { 1 } else { byte }
+    if byte <= MARK { 3 } else { byte }
 }
 
 /// Whether no byte of 2 is among these.

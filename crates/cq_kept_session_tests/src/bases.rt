@@ -8,7 +8,7 @@ use std::alloc::Global;
 use std::test::Fail;
 
 /// The base of three lines that left an empty store: its header and one chunk.
-const BASE: &[u8] = b"\x02\x03\x01\x19\n\x01\x01\x01\x1b\x05\n\n";
+const BASE: &[u8] = b"\x02\x03\x03\x03\x19\n\x03\x04\x03\x1b\x05\n\n";
 
 /// A line that says no event: its refusal tells the number of the line.
 const BAD: &[u8] = b"{]\n";

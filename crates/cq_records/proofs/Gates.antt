@@ -1,13 +1,12 @@
 -- A device that loses its records: its first gate is shut, zeros are written behind it chunk by chunk, and over it in the end.
 use Rattle.std.proofs.Common.{◌≡◌, ◌≢◌, ◌⊎◌, inl, inr, ⊎_elim, ℕ, zero, suc, ◌+◌, ◌-◌, ◌<◌, ◌≤◌, true, List, [], ◌∷◌, ◌++◌, length, take, drop, refl, sym, ◌∙◌, ap, arith, length-append, append_assoc, length-take, take-append-drop}
-use Rattle.std.specs.Prelude.{replicate, slice_index}
-use Rattle.std.proofs.lemmas.Bool.{cases_Bool, cases_eq}
+use Rattle.std.specs.Prelude.{nat_le, replicate, slice_index}
+use Rattle.std.proofs.lemmas.Bool.{cases_Bool, cases_eq, and_parts, true≢false}
 use Rattle.std.proofs.lemmas.List.{take_at, length-replicate, replicate-append-replicate}
 use Rattle.cq_disk.specs.declared.device.TornWrites.{TornWrites}
 use Rattle.cq_disk.specs.Device.{Torn, Overlaid}
-use Rattle.cq_records.specs.Frames.{frame_length, is_whole, frames}
+use Rattle.cq_records.specs.Frames.{is_plain, is_whole, frames}
 use Rattle.cq_records.specs.within.Blanks.{HasZerosBehind}
-use Rattle.cq_records.proofs.Zeros.{no_zero_at}
 use Rattle.cq_records.proofs.Frames.{whole_parts, none_whole, closed, index_prefix}
 
 pub zeros_on : (first old new bytes : List ℕ) (done many : ℕ) → bytes ≡ replicate many 0 → 1 ≤ done → length first ≡ 1 → take done old ≡ first ++ replicate (done - 1) 0 → Overlaid old done bytes new
@@ -31,8 +30,8 @@ torn_first torn at bytes d c some t =
     let long : 1 ≤ length d = omega (arith, t.within, some) in
     ap (λ (l : List ℕ). slice_index l 0) t.is ∙ index_prefix (take at d) (t.range ++ drop (at + length bytes) d) 0 (omega (arith, length-take at d, some, long)) ∙ first_of at d some long
 
-pub no_records : (c : List ℕ) (g : ℕ) → slice_index c 0 ≡ g → g ≢ 1 → frames c ≡ []
-no_records c g is shut = closed c (λ one. shut (sym is ∙ one))
+pub no_records : (c : List ℕ) (g : ℕ) → slice_index c 0 ≡ g → g ≢ 2 → frames c ≡ []
+no_records c g is shut = closed c (λ two. shut (sym is ∙ two))
 
 -- zeros behind any first byte
 headless : (x n : ℕ) → frames (x ∷ replicate n 0) ≡ []
@@ -42,12 +41,7 @@ headless x (suc n) = none_whole (x ∷ replicate (suc n) 0) (⊎_elim (λ whole.
     never : is_whole (x ∷ replicate (suc n) 0) ≡ true → ⊥
     never whole =
         let w = whole_parts (x ∷ replicate (suc n) 0) whole in
-        let k = frame_length (x ∷ replicate (suc n) 0) in
-        let long : length (take k (x ∷ replicate (suc n) 0)) ≡ k = omega (arith, length-take k (x ∷ replicate (suc n) 0), w.within) in
-        let at : slice_index (take k (x ∷ replicate (suc n) 0)) 1 ≡ 0 =
-        sym (index_prefix (take k (x ∷ replicate (suc n) 0)) (drop k (x ∷ replicate (suc n) 0)) 1 (omega (arith, long))) ∙ ap (λ (l : List ℕ). slice_index l 1) (take-append-drop k (x ∷ replicate (suc n) 0)) in
-        let some = no_zero_at (take k (x ∷ replicate (suc n) 0)) 1 w.full (omega (arith, long)) in
-        omega (arith, some, at)
+        true≢false (sym (and_parts (nat_le 2 x) (is_plain (take 7 (replicate (suc n) 0))) w.head).1)
 
 single : (l : List ℕ) → length l ≡ 1 → l ≡ slice_index l 0 ∷ []
 single [] is = absurd (omega (arith, is))
@@ -60,10 +54,10 @@ one_byte torn d c t =
     let is : c ≡ slice_index t.range 0 ∷ drop 1 d = t.is ∙ ap (λ (l : List ℕ). l ++ drop 1 d) (single t.range t.long) in
     is ∙ ap (λ (g : ℕ). g ∷ drop 1 d) (sym (ap (λ (l : List ℕ). slice_index l 0) is))
 
-pub torn_shut : (torn : TornWrites) (d c : List ℕ) → slice_index d 0 ≡ 1 → 0 < length d → Torn torn 0 (0 ∷ []) d c → (frames c ≡ []) ⊎ (c ≡ d)
+pub torn_shut : (torn : TornWrites) (d c : List ℕ) → slice_index d 0 ≡ 2 → 0 < length d → Torn torn 0 (0 ∷ []) d c → (frames c ≡ []) ⊎ (c ≡ d)
 torn_shut torn d c was some t =
     let is = one_byte torn d c t in
-    ⊎_elim (λ (one : slice_index c 0 ≡ 1). inr (is ∙ ap (λ (g : ℕ). g ∷ drop 1 d) (one ∙ sym was) ∙ sym (whole_again d some))) (λ (shut : slice_index c 0 ≢ 1). inl (closed c shut)) (cases_eq (slice_index c 0) 1)
+    ⊎_elim (λ (one : slice_index c 0 ≡ 2). inr (is ∙ ap (λ (g : ℕ). g ∷ drop 1 d) (one ∙ sym was) ∙ sym (whole_again d some))) (λ (shut : slice_index c 0 ≢ 2). inl (closed c shut)) (cases_eq (slice_index c 0) 2)
   where
     whole_again : (l : List ℕ) → 0 < length l → l ≡ slice_index l 0 ∷ drop 1 l
     whole_again [] more = absurd (omega (arith, more))

@@ -5,6 +5,6 @@ mod Gates
 mod Heads
 pub mod Outcomes
 mod Examples
-mod Torn
+pub mod Torn
 mod Zeros
 mod Steps

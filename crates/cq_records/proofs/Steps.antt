@@ -1,7 +1,15 @@
 -- Reading goes on behind a record.
 use Rattle.std.proofs.Common.{◌≡◌, ℕ, ◌+◌, ◌≤◌, List, [], ◌∷◌, ◌++◌, length, take, drop, sym, ◌∙◌, ap, arith, append_assoc, drop-drop, length-append, length-drop, length-take}
+use Rattle.cq_disk.specs.Device.{LeavesOnly}
+use Rattle.cq_disk.proofs.Moments.{runs_on, weakened}
 use Rattle.std.specs.Prelude.{Bool, false, ◌&&◌, map}
 use Rattle.cq_records.specs.Frames.{text_of, frames, frames_end, records, joined, all_sound, BeginsWith}
+
+-- one call behind another, of which neither writes
+pub reads_on : {D : Type 0} (moment : D → ℕ) (left_since : D → ℕ → List ℕ → Type 0) (may_leave : D → List ℕ → Type 0) → ((device : D) (t : ℕ) (c : List ℕ) → t ≤ moment device → may_leave device c → left_since device t c)
+    → (a b c : D) → LeavesOnly moment left_since a b (may_leave a) → LeavesOnly moment left_since b c (may_leave b) → LeavesOnly moment left_since a c (may_leave a)
+reads_on moment left_since may_leave counts_now a b c first second =
+    runs_on moment left_since a b c (may_leave a) first (weakened moment left_since b c (may_leave b) (may_leave a) second (λ f left. first.each f (counts_now b (moment a) f first.later left)))
 
 module _ (at behind : ℕ) (bytes text : List ℕ) (begins : BeginsWith text (drop at bytes)) (is : behind ≡ at + 9 + length text) where
   later : drop (9 + length text) (drop at bytes) ≡ drop behind bytes

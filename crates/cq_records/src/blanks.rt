@@ -33,7 +33,7 @@ fn shut<D: Device>(device: &mut D) -> Result<(), DeviceFault>
     requires durable { Only (D.seen device.old) (D.may_leave device.old) }
     requires some { 0 < length (D.seen device.old) }
 
-    ensures shut { OnOk result (IsTrue (D.is_honest device.new) → slice_index (D.seen device.new) 0 ≢ 1) }
+    ensures shut { OnOk result (IsTrue (D.is_honest device.new) → slice_index (D.seen device.new) 0 ≢ 2) }
     ensures length { length (D.seen device.new) ≡ length (D.seen device.old) }
     ensures durable { OnOk result (Only (D.seen device.new) (D.may_leave device.new)) }
     ensures any_moment { IsTrue (D.is_honest device.new) → LeavesOnly D.moment D.left_since device.old device.new
@@ -44,7 +44,7 @@ fn shut<D: Device>(device: &mut D) -> Result<(), DeviceFault>
 {
     let mut gate = [0];
     device.read_at(0, &mut gate)?;
-    if gate[0] != 1 {
+    if gate[0] != 2 {
         return Ok(());
     }
     device.write_at(0, &[0])?;
@@ -59,7 +59,7 @@ fn write_zeros<D: Device>(device: &mut D) -> Result<(), DeviceFault>
     ensures zeros { OnOk result (HasZerosBehind (D.seen device.old) (D.seen device.new)) }
     ensures length { length (D.seen device.new) ≡ length (D.seen device.old) }
     ensures durable { OnOk result (Only (D.seen device.new) (D.may_leave device.new)) }
-    ensures any_moment { slice_index (D.seen device.old) 0 ≢ 1 → LeavesOnly D.moment D.left_since device.old device.new (λ c. frames c ≡ []) }
+    ensures any_moment { slice_index (D.seen device.old) 0 ≢ 2 → LeavesOnly D.moment D.left_since device.old device.new (λ c. frames c ≡ []) }
     ensures honest { D.is_honest device.new ≡ D.is_honest device.old }
     ensures keeps { D.keeps device.old device.new }
     ensures cause { HasCause (D.faults device.old) (D.faults device.new) result }

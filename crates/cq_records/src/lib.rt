@@ -3,6 +3,7 @@
 #![tactic(auto)]
 
 mod batch;
+mod behind;
 mod blanks;
 mod crc;
 mod fault;
@@ -13,6 +14,7 @@ mod reading;
 mod writes;
 
 pub use batch::Batch;
+pub use behind::Behind;
 pub use blanks::blank;
 pub use crc::checksum;
 pub use fault::{LogFault, ReadFault};
@@ -21,4 +23,4 @@ pub use laws::{
     a_commit_leaves_no_damage, a_part_changes_alone, bytes_stand_for, no_outcome_is_damaged,
 };
 pub use log::Log;
-pub use reading::{Found, read_into, read_log, read_record, read_texts};
+pub use reading::{Found, read_into, read_log, read_record};

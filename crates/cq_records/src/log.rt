@@ -8,7 +8,8 @@ use crate::{Batch, LogFault, blank};
 use cq_disk::{Device, DeviceFault, TornWrites};
 
 /// The device has the frames of the records, and zeros behind them. Neither a record nor the head of its frame
-/// has a zero byte, so a frame of which a crash lost some bytes has a zero, and counts for nothing.
+/// has a zero byte, so a frame of which a crash lost some bytes has a zero, and counts for nothing. Where a mark of a batch's begin
+/// comes behind it, no crash has lost them.
 #[derive(Drop)]
 pub struct Log<D: Device> {
     pub device: D,
@@ -51,10 +52,11 @@ impl<D: Device> Log<D> {
 
         ensures settled { OnOk result (IsSettled D.seen D.may_leave self.new) }
         ensures acknowledged { OnOk result (frames (D.seen self.new.device) ≡ frames (D.seen self.old.device) ++ frames (batch_bytes batch.now)) }
+        ensures end { OnOk result (self.new.end ≡ self.old.end + length (batch_bytes batch.now)) }
 
         // A crash at any moment of the call leaves the records from before it, and some of the batch's from the first on.
         ensures any_moment { LeavesOnly D.moment D.left_since self.old.device self.new.device
-            (IsPrefixOf (frames (D.seen self.old.device)) (frames (batch_bytes batch.now))) }
+            (IsPrefixOf (D.torn self.old.device) (frames (D.seen self.old.device)) (frames (batch_bytes batch.now))) }
 
         // Nothing beside the log's device changes, and nothing is read.
         ensures keeps { D.keeps self.old.device self.new.device }

@@ -1,6 +1,6 @@
 //! How a batch gets onto the medium.
 ghost use Rattle.std.specs.Prelude.{◌≡◌, ◌+◌, ◌^◌, ◌<◌, ◌≤◌, ◌++◌, length, replicate, OnOk};
-ghost use Rattle.cq_disk.specs.declared.device.TornWrites.TheVariants.{OldOrNew};
+ghost use Rattle.cq_disk.specs.declared.device.TornWrites.TheVariants.{OldOrNew, Any};
 ghost use Rattle.cq_disk.specs.Device.{Only, LeavesOnly, HasCause};
 ghost use Rattle.cq_records.specs.within.Batches.{IsBatch};
 ghost use Rattle.cq_records.specs.Frames.{frames};
@@ -24,7 +24,7 @@ pub(crate) fn write_at_once<D: Device>(
     ensures log { OnOk result (IsLog (D.seen device.new) (end + length batch.now)) }
     ensures durable { OnOk result (Only (D.seen device.new) (D.may_leave device.new)) }
     ensures frames { OnOk result (frames (D.seen device.new) ≡ frames (D.seen device.old) ++ frames batch.now) }
-    ensures any_moment { LeavesOnly D.moment D.left_since device.old device.new (IsPrefixOf (frames (D.seen device.old)) (frames batch.now)) }
+    ensures any_moment { LeavesOnly D.moment D.left_since device.old device.new (IsPrefixOf (D.torn device.old) (frames (D.seen device.old)) (frames batch.now)) }
     ensures honest { D.is_honest device.new ≡ D.is_honest device.old }
     ensures keeps { D.keeps device.old device.new }
     ensures cause { HasCause (D.faults device.old) (D.faults device.new) result }
@@ -45,11 +45,12 @@ pub(crate) fn write_then_open<D: Device>(
     requires batch { IsBatch batch.now }
     requires room { end + length batch.now ≤ length (D.seen device.old) }
     requires short { length (D.seen device.old) < 2 ^ 64 }
+    requires torn { D.torn device.old ≡ Any }
 
     ensures log { OnOk result (IsLog (D.seen device.new) (end + length batch.now)) }
     ensures durable { OnOk result (Only (D.seen device.new) (D.may_leave device.new)) }
     ensures frames { OnOk result (frames (D.seen device.new) ≡ frames (D.seen device.old) ++ frames batch.now) }
-    ensures any_moment { LeavesOnly D.moment D.left_since device.old device.new (IsPrefixOf (frames (D.seen device.old)) (frames batch.now)) }
+    ensures any_moment { LeavesOnly D.moment D.left_since device.old device.new (IsPrefixOf (D.torn device.old) (frames (D.seen device.old)) (frames batch.now)) }
     ensures honest { D.is_honest device.new ≡ D.is_honest device.old }
     ensures keeps { D.keeps device.old device.new }
     ensures cause { HasCause (D.faults device.old) (D.faults device.new) result }

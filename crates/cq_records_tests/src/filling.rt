@@ -20,7 +20,7 @@ pub struct Filled<D: Device> {
 
 /// The text of the record of this number.
 pub fn text_of(alloc: Global, number: usize) -> Result<Vec<u8>, AllocError> {
-    vec![in alloc; (number % 200 + 1) as u8; number % 13]
+    vec![in alloc; (number % 200 + 2) as u8; number % 13]
 }
 
 // Adds so many records from this number on, and tells how many there are.

@@ -37,4 +37,6 @@ mod rewrites;
 #[cfg(test)]
 mod roots;
 #[cfg(test)]
+mod rot;
+#[cfg(test)]
 mod space;

@@ -39,17 +39,32 @@ fn made(
     Ok(Some(file.into_medium(random, torn)))
 }
 
+/// What is supposed of torn writes in a life.
+fn kind_of(kinds: &[TornWrites], random: &mut Xoshiro256PlusPlus) -> TornWrites {
+    let choice = (random.next_u64() % 2) as usize;
+    match kinds.get(choice).or(kinds.first()) {
+        Some(kind) => *kind,
+        None => TornWrites::OldOrNew,
+    }
+}
+
 /// How many lives had their journal made ready for records. `None`: a journal wasn't opened, or didn't have each record that
 /// was acknowledged, once and in order, and of the others only so many of the batch under way, from the first on.
-fn recovered_lives(alloc: Global, seed: u64, torn: TornWrites) -> Result<Option<usize>, ReadFault> {
+fn recovered_lives(
+    alloc: Global,
+    seed: u64,
+    kinds: &[TornWrites],
+) -> Result<Option<usize>, ReadFault> {
     let mut random = Xoshiro256PlusPlus::seed_from_u64(seed);
-    let Some(medium) = made(alloc, &mut random, torn)? else {
+    let first_kind = kind_of(kinds, &mut random);
+    let Some(medium) = made(alloc, &mut random, first_kind)? else {
         return Ok(None);
     };
     let mut medium = medium;
     let mut first = 0;
     let mut recovered: usize = 0;
     for _ in 0..LIVES {
+        let torn = kind_of(kinds, &mut random);
         let file = Simulated::new(alloc, &medium, 1 + random.next_u64() % 150)?;
         let device: Modelled<Simulated, Unknown> = Modelled::new(file, WHOLE, torn);
         let Some(life) = live(alloc, device, HALF, LEN, first, &mut random)? else {
@@ -74,10 +89,10 @@ fn recovered_lives(alloc: Global, seed: u64, torn: TornWrites) -> Result<Option<
     Ok(Some(recovered))
 }
 
-fn all_recovered(alloc: Global, torn: TornWrites) -> Result<Option<usize>, ReadFault> {
+fn all_recovered(alloc: Global, kinds: &[TornWrites]) -> Result<Option<usize>, ReadFault> {
     let mut all: usize = 0;
     for seed in 0..SEEDS {
-        let Some(recovered) = recovered_lives(alloc, seed, torn)? else {
+        let Some(recovered) = recovered_lives(alloc, seed, kinds)? else {
             return Ok(None);
         };
         all = all.saturating_add(recovered);
@@ -87,7 +102,7 @@ fn all_recovered(alloc: Global, torn: TornWrites) -> Result<Option<usize>, ReadF
 
 #[test]
 fn records_outlive_crashes_of_recoveries(rt: HostRuntime) -> Result<(), Fail> {
-    let recovered = all_recovered(rt.alloc(), TornWrites::OldOrNew)?;
+    let recovered = all_recovered(rt.alloc(), &[TornWrites::OldOrNew])?;
     // Some lives end in the recovery, and some go on behind it.
     assert!(rt; recovered.is_some_and(|lives| 50 < lives && lives < 280));
     Ok(())
@@ -95,7 +110,15 @@ fn records_outlive_crashes_of_recoveries(rt: HostRuntime) -> Result<(), Fail> {
 
 #[test]
 fn also_where_torn_writes_leave_anything(rt: HostRuntime) -> Result<(), Fail> {
-    let recovered = all_recovered(rt.alloc(), TornWrites::Any)?;
+    let recovered = all_recovered(rt.alloc(), &[TornWrites::Any])?;
+    assert!(rt; recovered.is_some_and(|lives| 50 < lives && lives < 280));
+    Ok(())
+}
+
+#[test]
+fn also_where_one_life_syncs_once_and_another_twice(rt: HostRuntime) -> Result<(), Fail> {
+    let kinds = [TornWrites::OldOrNew, TornWrites::Any];
+    let recovered = all_recovered(rt.alloc(), &kinds)?;
     assert!(rt; recovered.is_some_and(|lives| 50 < lives && lives < 280));
     Ok(())
 }

@@ -6,7 +6,7 @@ use crate::count_records;
 use crate::filling::add_records;
 use cq_disk::{Device, Memory, Region, TornWrites};
 use cq_journal::{Journal, read_root};
-use cq_records::{Batch, LogFault, ReadFault};
+use cq_records::{Batch, Behind, LogFault, ReadFault, read_log};
 use rand_xoshiro::Xoshiro256PlusPlus;
 use rand_xoshiro::rand_core::Rng;
 use std::alloc::{AllocError, Global};
@@ -88,23 +88,41 @@ pub fn write<D: Device>(
 }
 
 fn digit(byte: u8) -> usize {
-    byte.saturating_sub(1) as usize
+    byte.saturating_sub(2) as usize
 }
 
-/// The places that a root's record names, behind its number.
+/// The places that a root's record names, behind its number and its kind.
 fn places_in(alloc: Global, record: &[u8]) -> Result<Vec<usize>, AllocError> {
     let mut places = Vec::new(alloc);
-    for digits in record.chunks(5).skip(1) {
+    for digits in record.get(6..).unwrap_or(&[]).chunks(5) {
         let mut place: usize = 0;
         for byte in digits.iter().rev() {
-            place = place.saturating_mul(255).saturating_add(digit(*byte));
+            place = place.saturating_mul(254).saturating_add(digit(*byte));
         }
         places.push(place)?;
     }
     Ok(places)
 }
 
-/// How many records the journal has that these bytes stand for, if they are those of the numbers from 0 on.
+/// What may come behind the records of the last region that a root's record names.
+fn behind_last(record: &[u8]) -> Behind {
+    if record.get(5) == Some(&3) {
+        Behind::Anything
+    } else {
+        Behind::TornBatch
+    }
+}
+
+/// Reads a region as those are read that look for damage.
+fn look(alloc: Global, region: &[u8], behind: Behind, torn: TornWrites) -> Result<(), ReadFault> {
+    let mut device = Memory::new(alloc, region.to_vec(alloc)?, torn);
+    let mut text = Vec::new(alloc);
+    read_log(alloc, &mut device, behind, &mut 0, &mut text)?;
+    Ok(())
+}
+
+/// How many records the journal has that these bytes stand for, if they are those of the numbers from 0 on. `Damaged`: some of them were
+/// lost otherwise than a crash does.
 pub fn count_journal(
     alloc: Global,
     bytes: &[u8],
@@ -124,10 +142,17 @@ pub fn count_journal(
         return Ok(None);
     };
     let mut number = 0;
-    for place in &places_in(alloc, &found.bytes)? {
+    let places = places_in(alloc, &found.bytes)?;
+    for place in &places {
         let Some(part) = bytes.get(*place..place.saturating_add(len)) else {
             return Ok(None);
         };
+        let behind = if Some(place) == places.last() {
+            behind_last(&found.bytes)
+        } else {
+            Behind::Zeros
+        };
+        look(alloc, part, behind, torn)?;
         let device = Memory::new(alloc, part.to_vec(alloc)?, torn);
         let Some(next) = count_records(alloc, device, number)? else {
             return Ok(None);

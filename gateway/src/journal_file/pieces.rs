@@ -25,10 +25,13 @@ impl Form {
 }
 
 /// What says that the byte behind it stands for something else.
-const ESCAPE: u8 = 1;
+const ESCAPE: u8 = 3;
 
 /// The byte behind it that stands for a line feed.
 const LINE_FEED: u8 = 2;
+
+/// The byte behind it that stands for a 1.
+const ONE: u8 = 4;
 
 /// By so much the byte that stands for zeros is above their number.
 const ZEROS_ABOVE: u8 = 10;
@@ -42,6 +45,7 @@ pub fn unstuffed(piece: &[u8]) -> Option<Vec<u8>> {
         match rest.get(place + 1).copied()? {
             ESCAPE => bytes.push(ESCAPE),
             LINE_FEED => bytes.push(b'\n'),
+            ONE => bytes.push(1),
             zeros if zeros > ZEROS_ABOVE => bytes.resize(bytes.len() + usize::from(zeros - ZEROS_ABOVE), 0),
             _ => return None,
         }

@@ -10,6 +10,9 @@ use super::{JournalFileError, Lengths};
 /// How many digits a number and a place have.
 const DIGITS: usize = 5;
 
+/// Where the places begin, behind the number and the byte that says how the last region is written.
+const PLACES: usize = DIGITS + 1;
+
 /// A root that was read.
 #[derive(Clone, Debug, PartialEq, Eq)]
 pub struct Root {
@@ -73,10 +76,10 @@ fn read_half(file: &File, start: u64, lengths: Lengths) -> Result<Option<Root>, 
     file.read_exact_at(&mut half, start)?;
     let damaged = || JournalFileError::Damaged(start);
     let Some(record) = record_at(&half, 0).map_err(|_| damaged())? else { return Ok(None) };
-    if record.len() % DIGITS != 0 {
+    let record = &half[record];
+    if record.len() < PLACES || (record.len() - PLACES) % DIGITS != 0 {
         return Err(damaged());
     }
-    let mut numbers = half[record].chunks(DIGITS).map(number);
-    let first = numbers.next().unwrap_or(0);
-    Ok((first > 0).then(|| Root { number: first, places: numbers.collect() }))
+    let first = number(&record[..DIGITS]);
+    Ok((first > 0).then(|| Root { number: first, places: record[PLACES..].chunks(DIGITS).map(number).collect() }))
 }

@@ -18,17 +18,17 @@ const THIRD: usize = FRONT + 2 * LENGTHS.region;
 const HEAD: &[u8] = b"\x02E\n";
 
 fn digits(number: u64, count: u32) -> Vec<u8> {
-    (0..count).map(|place| (number / 255u64.pow(place) % 255) as u8 + 1).collect()
+    (0..count).map(|place| (number / 254u64.pow(place) % 254) as u8 + 2).collect()
 }
 
 fn frame(record: &[u8]) -> Vec<u8> {
-    let sum = crc32fast::hash(record);
-    [&[1][..], &digits(record.len() as u64, 3), &digits(sum.into(), 5), record].concat()
+    let sum = u64::from(crc32fast::hash(record)) % 254u64.pow(4);
+    [&[2][..], &digits(record.len() as u64, 3), &digits(sum, 4), &[1], record].concat()
 }
 
 fn root(number: u64, places: &[usize]) -> Vec<u8> {
     let places = places.iter().flat_map(|place| digits(*place as u64, 5));
-    frame(&digits(number, 5).into_iter().chain(places).collect::<Vec<_>>())
+    frame(&digits(number, 5).into_iter().chain([2]).chain(places).collect::<Vec<_>>())
 }
 
 /// A piece for these bytes, with its line feed.
@@ -36,9 +36,10 @@ fn piece(bytes: &[u8]) -> Vec<u8> {
     let mut text = Vec::new();
     for byte in bytes {
         match byte {
-            0 => text.extend([1, 11]),
-            1 => text.extend([1, 1]),
-            b'\n' => text.extend([1, 2]),
+            0 => text.extend([3, 11]),
+            1 => text.extend([3, 4]),
+            3 => text.extend([3, 3]),
+            b'\n' => text.extend([3, 2]),
             other => text.push(*other),
         }
     }
@@ -143,7 +144,7 @@ fn entries_are_read_region_by_region_and_those_behind_a_store_too() {
     let zeros = [b'x', 0, 0, 0, b'\n'];
     made.put(
         FIRST,
-        &[frame(b"\x02S\n"), frame(&piece(b"chunk")), frame(b"x\x01\x0d\x01\x02\n"), frame(b"\n")].concat(),
+        &[frame(b"\x02S\n"), frame(&piece(b"chunk")), frame(b"x\x03\x0d\x03\x02\n"), frame(b"\n")].concat(),
     );
     made.put(SECOND, &frame(&piece(b"one")));
     assert!(made.open().unwrap().has_store());
@@ -160,9 +161,9 @@ fn a_flipped_byte_is_told_by_its_place_or_ends_its_log() {
             let mut flipped = Made { room: Room::new("flipped"), bytes: made.bytes.clone() };
             flipped.bytes[at] ^= 0x10;
             let read = flipped.read();
-            let is_of_head = at < start + 4;
+            let is_of_head = at < start + 4 || at == start + 8;
             if is_of_head {
-                // Where its gate or its length is another one, it isn't whole, or has another checksum.
+                // Where its gate, its length or its mark is another one, it isn't whole, or has another checksum.
                 let is_less = [r#""one", "t\0w\u{1}o\n""#, r#""three""#, ""].contains(&read.as_str());
                 let is_none = read == "it has lines, as an earlier version keeps them";
                 assert!(
@@ -174,12 +175,12 @@ fn a_flipped_byte_is_told_by_its_place_or_ends_its_log() {
             }
         }
     }
-    for at in 0..9 + 15 {
+    for at in 0..9 + 16 {
         let mut flipped = Made { room: Room::new("flipped"), bytes: made.bytes.clone() };
         flipped.bytes[at] ^= 0x10;
         let read = flipped.read();
         assert!(
-            read == "it is damaged at byte 0" || at < 4 && read == "it is no journal of this version",
+            read == "it is damaged at byte 0" || (at < 4 || at == 8) && read == "it is no journal of this version",
             "{at}: {read}"
         );
         // Where the other half has a later root, none of this matters but its damage.
@@ -218,9 +219,9 @@ fn what_no_journal_of_entries_has_is_refused() {
     let damaged = format!("it is damaged at byte {}", FIRST + frame(HEAD).len());
     assert_eq!(read(&frame(b"{\"op\":\"show\"}\n")), "it has lines, as an earlier version keeps them");
     assert_eq!(with(b"no line feed"), damaged);
-    assert_eq!(with(b"escaped\x01\n"), damaged);
-    assert_eq!(with(b"\x01\x0a\n"), damaged);
-    assert_eq!(with(b"\x01\x03\n"), damaged);
+    assert_eq!(with(b"escaped\x03\n"), damaged);
+    assert_eq!(with(b"\x03\x0a\n"), damaged);
+    assert_eq!(with(b"\x03\x05\n"), damaged);
     assert_eq!(with(b"one\ntwo"), format!("\"one\", {damaged}"));
     let store = read(&[frame(b"\x02S\n"), frame(b"chunk\n")].concat());
     assert!(store.starts_with("chunk \"chunk\", it is damaged at byte "), "{store}: it has no end");
@@ -236,7 +237,7 @@ fn what_no_journal_of_entries_has_is_refused() {
     made.put(LENGTHS.half, &root(1, &[FIRST, SECOND]));
     assert_eq!(made.read(), "it is damaged at byte 0", "two roots have one number");
     made.put(0, &frame(b"1234567"));
-    assert_eq!(made.read(), "it is damaged at byte 0", "a root has five digits for each number");
+    assert_eq!(made.read(), "it is damaged at byte 0", "a root has five digits for each place");
 }
 
 #[test]

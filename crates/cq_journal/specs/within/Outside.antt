@@ -18,6 +18,7 @@ module _ {D : Type 0} {g : Ghosts D} where
   pub record ChangesOutside (place : ℕ) (old new : Journal D g) : Type 0 where
     pub closed : new.closed ≡ old.closed
     pub growing : new.growing ≡ old.growing
+    pub torn : new.torn ≡ old.torn
     pub end : new.end ≡ old.end
     pub len : new.len ≡ old.len
     pub half : journal_half new ≡ journal_half old

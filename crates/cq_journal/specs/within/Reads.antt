@@ -13,5 +13,6 @@ module _ {D : Type 0} {g : Ghosts D} where
   pub record IsRead (old new : Journal D g) : Type 0 where
     pub closed : new.closed ≡ old.closed
     pub growing : new.growing ≡ old.growing
+    pub torn : new.torn ≡ old.torn
     pub len : new.len ≡ old.len
     pub seen : g.seen (journal_device new) ≡ g.seen (journal_device old)

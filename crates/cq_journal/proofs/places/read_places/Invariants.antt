@@ -7,7 +7,7 @@ use Rattle.cq_journal.proofs.places.read_places.Given as goal
 abbrev pub invariant-loop-at : goal.invariant-loop-at
 invariant-loop-at l = record {
   within : l.at ≤ length l.bytes;
-  read : l.places.items ++ places_in (drop l.at l.bytes) ≡ places_in (drop 5 l.bytes);
+  read : l.places.items ++ places_in (drop l.at l.bytes) ≡ places_in (drop 6 l.bytes);
   small : Each (λ n. n < NUMBER_LIMIT) l.places.items;
 }
 

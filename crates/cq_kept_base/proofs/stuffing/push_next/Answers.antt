@@ -8,5 +8,5 @@ pub returns-then-byte-eq-ESCAPE : goal.returns-then-byte-eq-ESCAPE
 returns-then-byte-eq-ESCAPE c = (
   [],
   sym (append-nil c.args.bytes.now.items),
-  λ rest. ap (λ e. unstuffed e (c.args.byte ∷ rest)) c.if-is_escaped.false ∙ escape_reads c.args.byte rest (eq-eqb c.args.byte 1 c.if-byte-eq-ESCAPE.true) ∙ sym (put_none (unstuffed true rest)),
+  λ rest. ap (λ e. unstuffed e (c.args.byte ∷ rest)) c.if-is_escaped.false ∙ escape_reads c.args.byte rest (eq-eqb c.args.byte 3 c.if-byte-eq-ESCAPE.true) ∙ sym (put_none (unstuffed true rest)),
 )

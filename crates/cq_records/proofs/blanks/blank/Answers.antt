@@ -12,7 +12,7 @@ returns-clause-any_moment g c = λ honest.
     let mid = g.D.Device.seen c.shut.new.device in
     let P : List ℕ → Type 0 = λ f. (frames f ≡ []) ⊎ (f ≡ old) in
     let honest_mid : IsTrue (g.D.Device.is_honest c.shut.new.device) = sym (c.sync.ensures.honest ∙ c.write_at.ensures.honest ∙ c.write_zeros.ensures.honest) ∙ honest in
-    let shut : slice_index mid 0 ≢ 1 = c.in_ok-shut.ensures.shut honest_mid in
+    let shut : slice_index mid 0 ≢ 2 = c.in_ok-shut.ensures.shut honest_mid in
     let first : LeavesOnly g.D.Device.moment g.D.Device.left_since c.args.device.now c.shut.new.device P = c.shut.ensures.any_moment honest_mid in
     let second : LeavesOnly g.D.Device.moment g.D.Device.left_since c.shut.new.device c.write_zeros.new.device P =
     weakened g.D.Device.moment g.D.Device.left_since c.shut.new.device c.write_zeros.new.device (λ f. frames f ≡ []) P (c.write_zeros.ensures.any_moment shut) (λ f none. inl none) in
@@ -30,7 +30,7 @@ returns-in_err-write_at-clause-any_moment g c = λ honest.
     let mid = g.D.Device.seen c.shut.new.device in
     let P : List ℕ → Type 0 = λ f. (frames f ≡ []) ⊎ (f ≡ old) in
     let honest_mid : IsTrue (g.D.Device.is_honest c.shut.new.device) = sym (c.write_at.ensures.honest ∙ c.write_zeros.ensures.honest) ∙ honest in
-    let shut : slice_index mid 0 ≢ 1 = c.in_ok-shut.ensures.shut honest_mid in
+    let shut : slice_index mid 0 ≢ 2 = c.in_ok-shut.ensures.shut honest_mid in
     let first : LeavesOnly g.D.Device.moment g.D.Device.left_since c.args.device.now c.shut.new.device P = c.shut.ensures.any_moment honest_mid in
     let second : LeavesOnly g.D.Device.moment g.D.Device.left_since c.shut.new.device c.write_zeros.new.device P =
     weakened g.D.Device.moment g.D.Device.left_since c.shut.new.device c.write_zeros.new.device (λ f. frames f ≡ []) P (c.write_zeros.ensures.any_moment shut) (λ f none. inl none) in

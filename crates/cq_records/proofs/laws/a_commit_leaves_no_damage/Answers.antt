@@ -11,4 +11,4 @@ returns g c =
     let log = c.args.log.now in
     let batch : List (List ℕ) = frames c.args.batch.now.bytes.items in
     weakened d.moment d.left_since log.device c.commit.new.self.device _ _ c.commit.ensures.any_moment
-    (λ f prefix. none_damaged (frames (d.seen log.device)) batch f c.requires.bytes.sound c.args.batch.now.batch.sound prefix)
+    (λ f prefix. (none_damaged (d.torn log.device) (frames (d.seen log.device)) batch f c.requires.bytes.sound c.args.batch.now.batch.sound prefix, prefix.rest))

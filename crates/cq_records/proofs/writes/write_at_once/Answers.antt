@@ -12,8 +12,8 @@ returns-in_err-write_at-clause-any_moment g c =
     let seen = g.D.Device.seen c.args.device.now in
     let torn = g.D.Device.torn c.args.device.now in
     let r = c.requires in
-    let P = IsPrefixOf (frames seen) (frames c.args.batch.now) in
-    let begun = started g.D.Device.moment g.D.Device.left_since c.args.device.now P (λ f left. at_start seen c.args.batch.now c.args.end r.log r.batch r.room f (r.durable f (g.met.D.Device.only_now c.args.device.now f left))) in
+    let P = IsPrefixOf torn (frames seen) (frames c.args.batch.now) in
+    let begun = started g.D.Device.moment g.D.Device.left_since c.args.device.now P (λ f left. at_start seen c.args.batch.now c.args.end r.log r.batch r.room torn f (r.durable f (g.met.D.Device.only_now c.args.device.now f left))) in
     let crash : (f : List ℕ) → g.D.Device.may_leave c.write_at.new.self f → P f = λ f now. let from = c.write_at.ensures.crash f now in
     torn_at_once seen c.args.batch.now c.args.end r.log r.batch r.room torn r.torn f (subst (λ o. Torn torn c.args.end c.args.batch.now o f) (r.durable from.0 from.1) from.2) in
     goes_on g.D.Device.moment g.D.Device.left_since c.args.device.now c.args.device.now c.write_at.new.self P _ begun c.write_at.ensures.time crash
@@ -37,8 +37,8 @@ returns-clause-any_moment g c =
     let seen = g.D.Device.seen c.args.device.now in
     let torn = g.D.Device.torn c.args.device.now in
     let r = c.requires in
-    let P = IsPrefixOf (frames seen) (frames c.args.batch.now) in
-    let begun = started g.D.Device.moment g.D.Device.left_since c.args.device.now P (λ f left. at_start seen c.args.batch.now c.args.end r.log r.batch r.room f (r.durable f (g.met.D.Device.only_now c.args.device.now f left))) in
+    let P = IsPrefixOf torn (frames seen) (frames c.args.batch.now) in
+    let begun = started g.D.Device.moment g.D.Device.left_since c.args.device.now P (λ f left. at_start seen c.args.batch.now c.args.end r.log r.batch r.room torn f (r.durable f (g.met.D.Device.only_now c.args.device.now f left))) in
     let crash : (f : List ℕ) → g.D.Device.may_leave c.write_at.new.self f → P f = λ f now. let from = c.write_at.ensures.crash f now in
     torn_at_once seen c.args.batch.now c.args.end r.log r.batch r.room torn r.torn f (subst (λ o. Torn torn c.args.end c.args.batch.now o f) (r.durable from.0 from.1) from.2) in
     let wrote = goes_on g.D.Device.moment g.D.Device.left_since c.args.device.now c.args.device.now c.write_at.new.self P _ begun c.write_at.ensures.time crash in

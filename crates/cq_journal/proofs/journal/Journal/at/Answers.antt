@@ -3,7 +3,7 @@ use Rattle.std.proofs.Common.{◌≡◌, drop, length, refl, arith, ℕ, ◌+◌
 use Rattle.std.specs.Prelude.{Option, Some, None, MatchOption}
 use Rattle.cq_journal.specs.declared.number.TheConstants.{NUMBER_LIMIT}
 use Rattle.cq_journal.specs.within.Bounds.{IsWithin}
-use Rattle.cq_journal.specs.Regions.{Each, AreApart, places_in, places_text}
+use Rattle.cq_journal.specs.Regions.{Each, AreApart, torn_in, places_in, regions_text}
 use Rattle.cq_journal.specs.Roots.{number_in, numbered}
 use Rattle.cq_journal.proofs.Regions.{each_so, each_more, kept_of, last_of}
 use Rattle.cq_journal.specs.Numbers.{number_of}
@@ -30,7 +30,7 @@ returns-clause-regions g c =
     let closed = c.pop.new.self.items in
     let last = c.in-Some.growing in
     let In : ℕ → Type 0 = IsWithin n (h + h) c.len-whole.result in
-    let closed_in : Each In closed = subst (λ (xs : List ℕ). Each In xs) c.deref-2.ensures.value (c.are_within.ensures.within c.if-not-are_within.false) in
+    let closed_in : Each In closed = subst (λ (xs : List ℕ). Each In xs) c.deref-3.ensures.value (c.are_within.ensures.within c.if-not-are_within.false) in
     let last_in : In last = (c.are_within-else-not-are_within.ensures.within c.if-not-are_within-2.false).0 in
     record {
       root = c.requires.root;
@@ -41,7 +41,7 @@ returns-clause-regions g c =
       names = λ honest.
           c.requires.found honest
           ∙ ap (λ (bytes : List ℕ). Some bytes) (sym c.deref-else-root-ge-NUMBER_LIMIT.ensures.value ∙ c.in_ok-is_record_of.ensures.is c.if-not-branch.false
-          ∙ ap (λ (xs : List ℕ). numbered root.number (places_text (xs ++ last ∷ []))) c.deref-else-root-ge-NUMBER_LIMIT-2.ensures.value);
+          ∙ ap (λ (xs : List ℕ). numbered root.number (regions_text c.torn_in-torn.result (xs ++ last ∷ []))) c.deref-else-root-ge-NUMBER_LIMIT-2.ensures.value);
     }
 
 pub returns-clause-kept : goal.returns-clause-kept
@@ -63,7 +63,7 @@ returns-in_default-clause-damaged g c = λ err honest i.
     let record_is = c.requires.found honest in
     let text : List ℕ = c.args.found.now.bytes.items in
     let number : number_of text ≡ root.number = sym (ap number_in record_is) ∙ ap number_in (root_is h root.log.device.start q.place bytes root.number (q.current honest) (q.other honest)) ∙ q.current honest in
-    some_named h c.args.len bytes i text record_is (ap (λ (r : List ℕ). places_in (drop 5 r)) (sym c.deref.ensures.value) ∙ sym c.in_ok-closed.ensures.places ∙ no_items c.in_ok-closed.closed.items (omega (arith, c.in_ok-closed.closed.ok, (if_none c.pop.result _ _ c.pop.ensures.cases c.in_default.not-Some).0)))
+    some_named h c.args.len bytes i text record_is (ap (λ (r : List ℕ). places_in (drop 6 r)) (sym c.deref-2.ensures.value) ∙ sym c.in_ok-closed.ensures.places ∙ no_items c.in_ok-closed.closed.items (omega (arith, c.in_ok-closed.closed.ok, (if_none c.pop.result _ _ c.pop.ensures.cases c.in_default.not-Some).0)))
 
 pub returns-then-root-ge-NUMBER_LIMIT-clause-damaged : goal.returns-then-root-ge-NUMBER_LIMIT-clause-damaged
 returns-then-root-ge-NUMBER_LIMIT-clause-damaged g c = λ err honest i.
@@ -75,14 +75,15 @@ returns-then-root-ge-NUMBER_LIMIT-clause-damaged g c = λ err honest i.
     let text : List ℕ = c.args.found.now.bytes.items in
     let number : number_of text ≡ root.number = sym (ap number_in record_is) ∙ ap number_in (root_is h root.log.device.start q.place bytes root.number (q.current honest) (q.other honest)) ∙ q.current honest in
     let closed : List ℕ = c.pop.new.self.items in
+    let torn_is : torn_in text ≡ c.torn_in-torn.result = sym (c.torn_in-torn.ensures ∙ ap torn_in c.deref.ensures.value) in
     let growing = c.in-Some.growing in
-    let read : places_in (drop 5 text) ≡ closed ++ growing ∷ [] = ap (λ (r : List ℕ). places_in (drop 5 r)) (sym c.deref.ensures.value) ∙ sym c.in_ok-closed.ensures.places ∙ c.in-Some.ensures.items in
+    let read : places_in (drop 6 text) ≡ closed ++ growing ∷ [] = ap (λ (r : List ℕ). places_in (drop 6 r)) (sym c.deref-2.ensures.value) ∙ sym c.in_ok-closed.ensures.places ∙ c.in-Some.ensures.items in
     elim c.then-root-ge-NUMBER_LIMIT.branch [
       | then-root-ge-NUMBER_LIMIT-via-then-root-ge-NUMBER_LIMIT w ↦ omega (arith, number, small_number h c.args.len bytes i text record_is, w.if-root-ge-NUMBER_LIMIT.true)
       | then-root-ge-NUMBER_LIMIT-via-else-root-ge-NUMBER_LIMIT+in_ok-is_record_of+then-not-branch w ↦
           w.in_ok-is_record_of.ensures.not w.if-not-branch.true
           (w.deref-else-root-ge-NUMBER_LIMIT.ensures.value ∙ record_of h c.args.len bytes i text record_is closed growing read
-          ∙ (λ k. numbered (number k) (places_text (sym w.deref-else-root-ge-NUMBER_LIMIT-2.ensures.value k ++ growing ∷ []))))
+          ∙ (λ k. numbered (number k) (regions_text (torn_is k) (sym w.deref-else-root-ge-NUMBER_LIMIT-2.ensures.value k ++ growing ∷ []))))
     ]
 
 pub returns-then-not-are_within-clause-damaged : goal.returns-then-not-are_within-clause-damaged
@@ -96,10 +97,10 @@ returns-then-not-are_within-clause-damaged g c = λ err honest i.
     let number : number_of text ≡ root.number = sym (ap number_in record_is) ∙ ap number_in (root_is h root.log.device.start q.place bytes root.number (q.current honest) (q.other honest)) ∙ q.current honest in
     let closed : List ℕ = c.pop.new.self.items in
     let growing = c.in-Some.growing in
-    let read : places_in (drop 5 text) ≡ closed ++ growing ∷ [] = ap (λ (r : List ℕ). places_in (drop 5 r)) (sym c.deref.ensures.value) ∙ sym c.in_ok-closed.ensures.places ∙ c.in-Some.ensures.items in
+    let read : places_in (drop 6 text) ≡ closed ++ growing ∷ [] = ap (λ (r : List ℕ). places_in (drop 6 r)) (sym c.deref-2.ensures.value) ∙ sym c.in_ok-closed.ensures.places ∙ c.in-Some.ensures.items in
     let In : ℕ → ℕ → Type 0 = λ whole. IsWithin c.args.len (h + h) whole in
-    let closed_in : Each (In c.len-whole.result) c.deref-2.result.now =
-    subst (λ (xs : List ℕ). Each (In c.len-whole.result) xs) (sym c.deref-2.ensures.value)
+    let closed_in : Each (In c.len-whole.result) c.deref-3.result.now =
+    subst (λ (xs : List ℕ). Each (In c.len-whole.result) xs) (sym c.deref-3.ensures.value)
     (subst (λ (k : ℕ). Each (In k) closed) (sym c.len-whole.ensures) (closed_within h c.args.len bytes i text record_is closed growing read)) in
     elim c.then-not-are_within.branch [
       | then-not-are_within-via-then-not-are_within w ↦ c.are_within.ensures.not w.if-not-are_within.true closed_in

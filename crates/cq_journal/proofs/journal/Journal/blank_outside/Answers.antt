@@ -13,14 +13,14 @@ on_ok (Err e) p step = tt
 pub returns-clause-journal : goal.returns-clause-journal
 returns-clause-journal g c =
     let b = c.blank_at.ensures in
-    on_ok c.blank_at.result b.root (λ root. journal_still c.args.place c.args.self.now (record { root = c.blank_at.new.self; len = c.args.self.now.len; closed = c.args.self.now.closed; growing = c.args.self.now.growing; end = c.args.self.now.end }) c.requires.outside
-    (record { closed = refl; growing = refl; end = refl; len = refl; half = b.half; number = b.number; length = b.length; beside = b.beside; honest = b.honest }) root c.requires.journal)
+    on_ok c.blank_at.result b.root (λ root. journal_still c.args.place c.args.self.now (record { root = c.blank_at.new.self; len = c.args.self.now.len; closed = c.args.self.now.closed; growing = c.args.self.now.growing; torn = c.args.self.now.torn; end = c.args.self.now.end }) c.requires.outside
+    (record { closed = refl; growing = refl; torn = refl; end = refl; len = refl; half = b.half; number = b.number; length = b.length; beside = b.beside; honest = b.honest }) root c.requires.journal)
 
 pub returns-clause-records : goal.returns-clause-records
 returns-clause-records g c =
     let b = c.blank_at.ensures in
-    records_still c.args.place c.args.self.now (record { root = c.blank_at.new.self; len = c.args.self.now.len; closed = c.args.self.now.closed; growing = c.args.self.now.growing; end = c.args.self.now.end }) c.requires.outside
-    (record { closed = refl; growing = refl; end = refl; len = refl; half = b.half; number = b.number; length = b.length; beside = b.beside; honest = b.honest })
+    records_still c.args.place c.args.self.now (record { root = c.blank_at.new.self; len = c.args.self.now.len; closed = c.args.self.now.closed; growing = c.args.self.now.growing; torn = c.args.self.now.torn; end = c.args.self.now.end }) c.requires.outside
+    (record { closed = refl; growing = refl; torn = refl; end = refl; len = refl; half = b.half; number = b.number; length = b.length; beside = b.beside; honest = b.honest })
 
 pub returns-clause-any_moment : goal.returns-clause-any_moment
 returns-clause-any_moment g c = λ honest.
@@ -31,8 +31,8 @@ returns-clause-any_moment g c = λ honest.
 
 pub returns-clause-intact : goal.returns-clause-intact
 returns-clause-intact g c =
-    outside_leaves c.args.place c.args.self.now (record { root = c.blank_at.new.self; len = c.args.self.now.len; closed = c.args.self.now.closed; growing = c.args.self.now.growing; end = c.args.self.now.end }) c.requires.outside c.requires.journal.regions c.blank_at.ensures.honest c.blank_at.ensures.any_moment
+    outside_leaves c.args.place c.args.self.now (record { root = c.blank_at.new.self; len = c.args.self.now.len; closed = c.args.self.now.closed; growing = c.args.self.now.growing; torn = c.args.self.now.torn; end = c.args.self.now.end }) c.requires.outside c.requires.journal.regions c.blank_at.ensures.honest c.blank_at.ensures.any_moment
 
 pub returns-clause-stays : goal.returns-clause-stays
 returns-clause-stays g c =
-    outside_stays c.args.place c.args.self.now (record { root = c.blank_at.new.self; len = c.args.self.now.len; closed = c.args.self.now.closed; growing = c.args.self.now.growing; end = c.args.self.now.end }) c.requires.outside c.requires.journal.regions c.blank_at.ensures.honest c.blank_at.ensures.beside
+    outside_stays c.args.place c.args.self.now (record { root = c.blank_at.new.self; len = c.args.self.now.len; closed = c.args.self.now.closed; growing = c.args.self.now.growing; torn = c.args.self.now.torn; end = c.args.self.now.end }) c.requires.outside c.requires.journal.regions c.blank_at.ensures.honest c.blank_at.ensures.beside

@@ -2,18 +2,19 @@
 use Rattle.std.proofs.Common.{◌≡◌, ℕ, ◌+◌, ◌≤◌, List, [], ◌∷◌, ◌++◌, length, refl, sym, ◌∙◌, ap, subst, append_assoc}
 use Rattle.std.specs.Prelude.{Some, map, Result, Ok, Err, OnOk}
 use Rattle.cq_disk.specs.Region.{part}
-use Rattle.cq_disk.proofs.Moments.{weakened}
+use Rattle.cq_disk.proofs.Moments.{started, weakened}
 use Rattle.cq_records.specs.Batch.{batch_bytes}
 use Rattle.cq_records.specs.Frames.{text_of, frames, records, all_sound}
 use Rattle.cq_records.specs.Layout.{IsLog}
-use Rattle.cq_journal.specs.Regions.{Each, places_text, records_at}
+use Rattle.cq_journal.specs.Regions.{Each, HasPrefixOf, regions_text, records_at}
 use Rattle.cq_journal.specs.Roots.{root_of, numbered}
 use Rattle.cq_journal.proofs.Bases.{apart_last, base_still, base_records_still}
-use Rattle.cq_journal.proofs.Regions.{grows, kept_of, records_apart, records_more, root_apart, text_append, last_of, each_so}
+use Rattle.cq_journal.proofs.Moves.{ends_so, log_any}
+use Rattle.cq_journal.proofs.Regions.{append-none, grows, kept_of, records_apart, records_more, root_apart, text_append, last_of, each_so}
 use Rattle.cq_records.proofs.Outcomes.{none_damaged}
 use Rattle.cq_records.proofs.Frames.{sound_append}
 use Rattle.cq_journal.specs.Intact.{IsIntact}
-use Rattle.cq_journal.proofs.Intact.{intact_at, grown_intact}
+use Rattle.cq_journal.proofs.Intact.{intact_at, grown_intact, rests_intact}
 use Rattle.cq_journal.proofs.journal.Journal.commit.Goals as goal
 
 on_both : {T E P Q R : Type 0} (r : Result T E) → OnOk r P → OnOk r Q → (P → Q → R) → OnOk r R
@@ -40,7 +41,7 @@ returns-clause-journal g c =
         names = λ honest.
             ap (λ (m : ℕ). root_of m new_bytes) done.half
             ∙ root_apart h j.growing j.len old_bytes new_bytes (last_of (λ n. h + h ≤ n) j.closed.items j.growing q.regions.behind) done.beside ∙ q.regions.names (sym done.honest ∙ honest)
-            ∙ ap (λ (m : ℕ). Some (numbered m (places_text places))) (sym done.number);
+            ∙ ap (λ (m : ℕ). Some (numbered m (regions_text j.torn places))) (sym done.number);
       };
       log = log;
     })
@@ -110,7 +111,7 @@ returns-clause-full g c err =
           apart = q.regions.apart;
           small = q.regions.small;
           names = λ honest.
-              (λ i. root_of (done.half i) (seen_is i)) ∙ q.regions.names (sym done.honest ∙ honest) ∙ ap (λ (m : ℕ). Some (numbered m (places_text places))) (sym done.number);
+              (λ i. root_of (done.half i) (seen_is i)) ∙ q.regions.names (sym done.honest ∙ honest) ∙ ap (λ (m : ℕ). Some (numbered m (regions_text j.torn places))) (sym done.number);
         };
         log = subst (λ (m : ℕ). IsLog (part j.growing j.len (g.D.Device.seen new.log.device.device)) m) (sym full.2) (subst (λ (bytes : List ℕ). IsLog (part j.growing j.len bytes) j.end) (sym seen_is) q.log);
       },
@@ -122,8 +123,8 @@ returns-clause-bases g c base is =
     let j = c.args.self.now in
     let done = c.commit_at-done.ensures in
     let apart = apart_last j base is in (
-      base_still j.growing j (record { root = c.commit_at-done.new.self; len = j.len; closed = j.closed; growing = j.growing; end = c.commit_at-done.new.self.log.end }) refl refl done.half done.length done.beside base is apart,
-      base_records_still j.growing j (record { root = c.commit_at-done.new.self; len = j.len; closed = j.closed; growing = j.growing; end = c.commit_at-done.new.self.log.end }) refl refl done.half done.length done.beside base is apart,
+      base_still j.growing j (record { root = c.commit_at-done.new.self; len = j.len; closed = j.closed; growing = j.growing; torn = j.torn; end = c.commit_at-done.new.self.log.end }) refl refl done.half done.length done.beside base is apart,
+      base_records_still j.growing j (record { root = c.commit_at-done.new.self; len = j.len; closed = j.closed; growing = j.growing; torn = j.torn; end = c.commit_at-done.new.self.log.end }) refl refl done.half done.length done.beside base is apart,
     )
 
 pub returns-clause-intact : goal.returns-clause-intact
@@ -139,8 +140,10 @@ returns-clause-intact g c = λ now i.
       j.root.number,
       j.closed.items,
       j.growing,
+      j.torn,
       grown_intact h j.len j.root.number j.closed.items j.growing old_bytes at f both.1
-          (none_damaged (frames (part j.growing j.len old_bytes)) (frames (batch_bytes c.args.batch.now)) (part j.growing j.len f) q.log.sound c.args.batch.now.batch.sound both.0),
+          (none_damaged _ (frames (part j.growing j.len old_bytes)) (frames (batch_bytes c.args.batch.now)) (part j.growing j.len f) q.log.sound c.args.batch.now.batch.sound both.0)
+          (ends_so j.torn (part j.growing j.len f) (λ old_or_new. both.0.rest (c.is_torn_otherwise.ensures c.if-is_torn_otherwise.false old_or_new))),
     ))
 
 pub returns-clause-stays : goal.returns-clause-stays
@@ -152,15 +155,33 @@ returns-clause-stays g c =
     let h = j.root.log.device.len in
     let old_bytes = g.D.Device.seen j.root.log.device.device in
     let new_bytes = g.D.Device.seen new.log.device.device in
-    on_both c.commit_at-done.result done.acknowledged done.acknowledged (λ acknowledged again now i. (
+    on_both c.commit_at-done.result done.acknowledged done.log (λ acknowledged log now i. (
       j.root.number,
       j.closed.items,
       j.growing,
+      j.torn,
       grown_intact h j.len j.root.number j.closed.items j.growing old_bytes (intact_at j q.regions (sym done.honest ∙ now) i) new_bytes done.beside
-          (ap all_sound acknowledged ∙ sound_append (frames (part j.growing j.len old_bytes)) (frames (batch_bytes c.args.batch.now)) q.log.sound c.args.batch.now.batch.sound),
+          (ap all_sound acknowledged ∙ sound_append (frames (part j.growing j.len old_bytes)) (frames (batch_bytes c.args.batch.now)) q.log.sound c.args.batch.now.batch.sound)
+          (log_any j.torn (part j.growing j.len new_bytes) _ log),
     ))
 
 pub returns-clause-stays_full : goal.returns-clause-stays_full
 returns-clause-stays_full g c = λ err now i.
     let j = c.args.self.now in
     subst (IsIntact j.root.log.device.len j.len) (sym (ap g.D.Device.seen (c.commit_at-done.ensures.full err).1)) i
+
+-- nothing is written
+pub returns-then-is_torn_otherwise-clause-any_moment : goal.returns-then-is_torn_otherwise-clause-any_moment
+returns-then-is_torn_otherwise-clause-any_moment g c = λ honest.
+    let j = c.args.self.now in
+    let q = c.requires.regions in
+    let d = g.D.Device in
+    let device = j.root.log.device.device in
+    let places : List ℕ = j.closed.items ++ j.growing ∷ [] in
+    let rs = records_at j.len places (d.seen device) in
+    started d.moment d.left_since device _ (λ f left.
+    subst (HasPrefixOf j.root.log.device.len j.len rs (map text_of (frames (batch_bytes c.args.batch.now)))) (sym (q.root.durable f (g.met.D.Device.only_now device f left)))
+    (0, kept_of j.root.log.device.len j.len j.root.number places (d.seen device) q.small (q.names honest) ∙ ap (λ (xs : List (List ℕ)). Some xs) (sym (append-none rs))))
+
+pub returns-then-is_torn_otherwise-clause-intact : goal.returns-then-is_torn_otherwise-clause-intact
+returns-then-is_torn_otherwise-clause-intact g c = rests_intact c.args.self.now (λ f. g.met.D.Device.only_now c.args.self.now.root.log.device.device f) c.requires.regions

@@ -17,14 +17,14 @@ on_ok (Err e) p step = tt
 pub returns-clause-journal : goal.returns-clause-journal
 returns-clause-journal g c =
     let b = c.commit_at.ensures in
-    on_ok c.commit_at.result b.root (λ root. journal_still c.args.place c.args.self.now (record { root = c.commit_at.new.self; len = c.args.self.now.len; closed = c.args.self.now.closed; growing = c.args.self.now.growing; end = c.args.self.now.end }) c.requires.outside
-    (record { closed = refl; growing = refl; end = refl; len = refl; half = b.half; number = b.number; length = b.length; beside = b.beside; honest = λ honest. sym b.honest ∙ honest }) root c.requires.journal)
+    on_ok c.commit_at.result b.root (λ root. journal_still c.args.place c.args.self.now (record { root = c.commit_at.new.self; len = c.args.self.now.len; closed = c.args.self.now.closed; growing = c.args.self.now.growing; torn = c.args.self.now.torn; end = c.args.self.now.end }) c.requires.outside
+    (record { closed = refl; growing = refl; torn = refl; end = refl; len = refl; half = b.half; number = b.number; length = b.length; beside = b.beside; honest = λ honest. sym b.honest ∙ honest }) root c.requires.journal)
 
 pub returns-clause-records : goal.returns-clause-records
 returns-clause-records g c =
     let b = c.commit_at.ensures in
-    records_still c.args.place c.args.self.now (record { root = c.commit_at.new.self; len = c.args.self.now.len; closed = c.args.self.now.closed; growing = c.args.self.now.growing; end = c.args.self.now.end }) c.requires.outside
-    (record { closed = refl; growing = refl; end = refl; len = refl; half = b.half; number = b.number; length = b.length; beside = b.beside; honest = λ honest. sym b.honest ∙ honest })
+    records_still c.args.place c.args.self.now (record { root = c.commit_at.new.self; len = c.args.self.now.len; closed = c.args.self.now.closed; growing = c.args.self.now.growing; torn = c.args.self.now.torn; end = c.args.self.now.end }) c.requires.outside
+    (record { closed = refl; growing = refl; torn = refl; end = refl; len = refl; half = b.half; number = b.number; length = b.length; beside = b.beside; honest = λ honest. sym b.honest ∙ honest })
 
 pub returns-clause-acknowledged : goal.returns-clause-acknowledged
 returns-clause-acknowledged g c =
@@ -43,8 +43,8 @@ pub returns-clause-full : goal.returns-clause-full
 returns-clause-full g c err =
     let b = c.commit_at.ensures in
     let full = b.full err in (
-      journal_still c.args.place c.args.self.now (record { root = c.commit_at.new.self; len = c.args.self.now.len; closed = c.args.self.now.closed; growing = c.args.self.now.growing; end = c.args.self.now.end }) c.requires.outside
-          (record { closed = refl; growing = refl; end = refl; len = refl; half = b.half; number = b.number; length = b.length; beside = b.beside; honest = λ honest. sym b.honest ∙ honest }) full.0 c.requires.journal,
+      journal_still c.args.place c.args.self.now (record { root = c.commit_at.new.self; len = c.args.self.now.len; closed = c.args.self.now.closed; growing = c.args.self.now.growing; torn = c.args.self.now.torn; end = c.args.self.now.end }) c.requires.outside
+          (record { closed = refl; growing = refl; torn = refl; end = refl; len = refl; half = b.half; number = b.number; length = b.length; beside = b.beside; honest = λ honest. sym b.honest ∙ honest }) full.0 c.requires.journal,
       full.1,
       full.2,
       full.3,
@@ -54,9 +54,9 @@ pub returns-clause-intact : goal.returns-clause-intact
 returns-clause-intact g c =
     let d = g.D.Device in
     let j = c.args.self.now in
-    outside_leaves c.args.place j (record { root = c.commit_at.new.self; len = c.args.self.now.len; closed = c.args.self.now.closed; growing = c.args.self.now.growing; end = c.args.self.now.end }) c.requires.outside c.requires.journal.regions (λ honest. sym c.commit_at.ensures.honest ∙ honest)
+    outside_leaves c.args.place j (record { root = c.commit_at.new.self; len = c.args.self.now.len; closed = c.args.self.now.closed; growing = c.args.self.now.growing; torn = c.args.self.now.torn; end = c.args.self.now.end }) c.requires.outside c.requires.journal.regions (λ honest. sym c.commit_at.ensures.honest ∙ honest)
     (weakened d.moment d.left_since j.root.log.device.device c.commit_at.new.self.log.device.device _ _ c.commit_at.ensures.any_moment (λ f both. both.1))
 
 pub returns-clause-stays : goal.returns-clause-stays
 returns-clause-stays g c =
-    outside_stays c.args.place c.args.self.now (record { root = c.commit_at.new.self; len = c.args.self.now.len; closed = c.args.self.now.closed; growing = c.args.self.now.growing; end = c.args.self.now.end }) c.requires.outside c.requires.journal.regions (λ honest. sym c.commit_at.ensures.honest ∙ honest) c.commit_at.ensures.beside
+    outside_stays c.args.place c.args.self.now (record { root = c.commit_at.new.self; len = c.args.self.now.len; closed = c.args.self.now.closed; growing = c.args.self.now.growing; torn = c.args.self.now.torn; end = c.args.self.now.end }) c.requires.outside c.requires.journal.regions (λ honest. sym c.commit_at.ensures.honest ∙ honest) c.commit_at.ensures.beside

@@ -17,7 +17,7 @@ loop-at-init g c =
     let to = c.args.to.now in
     record {
       within = omega arith;
-      read = record { closed = refl; growing = refl; len = refl; seen = refl };
+      read = record { closed = refl; growing = refl; torn = refl; len = refl; seen = refl };
       journal = stays_self j c.requires.has_regions;
       rests = rests_self j (λ f. g.met.D.Device.only_now j.root.log.device.device f) c.requires.has_regions;
       there = c.requires.there;
@@ -61,7 +61,7 @@ loop-at-preserved g c =
     let closed_is : c.copy_region.new.self.closed ≡ j.closed = e.read.closed ∙ inv.read.closed in
     record {
       within = omega (arith, ap (λ v. length v.items) e.read.closed, c.loop-at-test.true, c.len.ensures);
-      read = record { closed = closed_is; growing = e.read.growing ∙ inv.read.growing; len = e.read.len ∙ inv.read.len; seen = e.read.seen ∙ inv.read.seen };
+      read = record { closed = closed_is; growing = e.read.growing ∙ inv.read.growing; torn = e.read.torn ∙ inv.read.torn; len = e.read.len ∙ inv.read.len; seen = e.read.seen ∙ inv.read.seen };
       journal = stays_journal_on j c.loop-at.self c.copy_region.new.self inv.journal ok.journal;
       rests = rests_on j c.loop-at.self c.copy_region.new.self inv.rests e.rests;
       there = widened.journal;

@@ -5,9 +5,9 @@ use Rattle.cq_disk.specs.Region.{part}
 use Rattle.cq_records.specs.Frames.{text_of, frames, records, joined, all_sound}
 use Rattle.cq_records.proofs.Frames.{of_zeros}
 use Rattle.cq_journal.specs.declared.number.TheConstants.{NUMBER_LIMIT}
-use Rattle.cq_journal.specs.Numbers.{digits}
-use Rattle.cq_journal.specs.Regions.{Each, AreApart, places_text, records_at}
+use Rattle.cq_journal.specs.Regions.{Each, AreApart, regions_text, records_at}
 use Rattle.cq_journal.specs.Roots.{root_of, numbered}
+use Rattle.cq_journal.proofs.Moves.{blank_log, log_any}
 use Rattle.cq_journal.proofs.Regions.{append-none, root_apart}
 use Rattle.cq_journal.proofs.Intact.{halves_apart, sound_blank}
 use Rattle.cq_journal.proofs.journal.Journal.create.Goals as goal
@@ -31,7 +31,7 @@ returns-clause-journal g c =
     let old = d.seen root.log.device.device in
     let bytes = d.seen new.log.device.device in
     let half_is : new.log.device.len ≡ c.args.half = b.half ∙ made.half in
-    let text_is : c.deref.result.now ≡ places_text (p ∷ []) = c.deref.ensures.value ∙ c.in_ok-push_number.ensures.ok ∙ ap (λ (xs : List ℕ). xs ++ digits p) c.new-text.ensures.items in
+    let text_is : c.deref.result.now ≡ regions_text c.torn_writes-torn.result (p ∷ []) = c.deref.ensures.value ∙ c.in_ok-text.ensures in
     let none : frames (part p n bytes) ≡ [] = ap frames b.zeros ∙ of_zeros n in
     let empty : c.new.result.items ≡ [] = c.new.ensures.items in
     record {
@@ -44,7 +44,7 @@ returns-clause-journal g c =
         names = λ honest.
             ap (λ (h : ℕ). root_of h bytes) half_is ∙ root_apart c.args.half p n old bytes (omega arith) b.beside ∙ made.text
             ∙ (λ i. Some (numbered (sym (b.number ∙ made.number) i) (text_is i)))
-            ∙ ap (λ (xs : List ℕ). Some (numbered new.number (places_text (xs ++ p ∷ [])))) (sym empty);
+            ∙ ap (λ (xs : List ℕ). Some (numbered new.number (regions_text c.torn_writes-torn.result (xs ++ p ∷ [])))) (sym empty);
       };
       log = record {
         room = n;
@@ -64,10 +64,11 @@ returns-clause-intact g c =
     let n = c.args.len in
     let old = d.seen root.log.device.device in
     let bytes = d.seen c.blank_at.new.self.log.device.device in
-    let text_is : c.deref.result.now ≡ places_text (p ∷ []) = c.deref.ensures.value ∙ c.in_ok-push_number.ensures.ok ∙ ap (λ (xs : List ℕ). xs ++ digits p) c.new-text.ensures.items in (
+    let text_is : c.deref.result.now ≡ regions_text c.torn_writes-torn.result (p ∷ []) = c.deref.ensures.value ∙ c.in_ok-text.ensures in (
       1,
       [],
       p,
+      c.torn_writes-torn.result,
       record {
         names = root_apart c.args.half p n old bytes (omega arith) b.beside ∙ made.text ∙ (λ i. Some (numbered 1 (text_is i)));
         small_number = omega arith;
@@ -78,5 +79,6 @@ returns-clause-intact g c =
         halves = halves_apart c.args.half n p old bytes (omega arith) b.beside made.sound;
         regions = (sound_blank n (part p n bytes) b.zeros, tt);
         closed_logs = tt;
+        grown = log_any c.torn_writes-torn.result _ 0 (blank_log n (part p n bytes) b.zeros);
       },
     )

@@ -4,12 +4,12 @@ use Rattle.std.specs.Prelude.{Some}
 use Rattle.cq_disk.specs.Device.{LeavesOnly}
 use Rattle.cq_disk.specs.Region.{part}
 use Rattle.cq_disk.proofs.Moments.{weakened, runs_on, started}
-use Rattle.cq_records.specs.Frames.{has_no_zero}
-use Rattle.cq_journal.proofs.Moves.{blank_log, log_closed}
+use Rattle.cq_records.specs.Frames.{is_plain}
+use Rattle.cq_journal.proofs.Moves.{blank_log, log_any, log_closed}
 use Rattle.cq_journal.specs.declared.number.TheConstants.{NUMBER_LIMIT}
-use Rattle.cq_journal.specs.Regions.{Each, AreApart, places_text, HasRecords, records_at}
+use Rattle.cq_journal.specs.Regions.{Each, AreApart, regions_text, HasRecords, records_at}
 use Rattle.cq_journal.specs.Roots.{numbered, IsOldOrNew, IsOldOrPut}
-use Rattle.cq_journal.proofs.Regions.{kept_of, last_of, each_so, each_more, each_left, places_long, no_zero_places, part_same, while_named, records_kept}
+use Rattle.cq_journal.proofs.Regions.{kept_of, last_of, each_so, each_more, each_left, places_long, plain_text, part_same, while_named, records_kept}
 use Rattle.cq_journal.specs.Intact.{IsIntact}
 use Rattle.cq_journal.proofs.Intact.{rests_intact, intact_at, with_next, sound_blank}
 use Rattle.cq_journal.proofs.journal.Journal.go_on_at.Goals as goal
@@ -25,7 +25,7 @@ pub put_in_both-requires-clause-text : goal.put_in_both-requires-clause-text
 put_in_both-requires-clause-text g c =
     let j = c.args.self.now in
     let text_is = c.deref-3.ensures.value ∙ c.in_ok-closed.ensures.text in
-    ap has_no_zero text_is ∙ no_zero_places ((c.deref.result.now ++ j.growing ∷ []) ++ c.args.place ∷ [])
+    ap is_plain text_is ∙ plain_text c.torn_writes-torn.result ((c.deref.result.now ++ j.growing ∷ []) ++ c.args.place ∷ [])
 
 pub put_in_both-requires-clause-short : goal.put_in_both-requires-clause-short
 put_in_both-requires-clause-short g c =
@@ -74,11 +74,11 @@ returns-in_err-put_in_both-clause-any_moment g c = λ honest.
     let honest_mid = c.put_in_both.ensures.honest honest in
     let names = q.regions.names (c.clear_outside.ensures.changes.honest honest_mid) in
     let P : List ℕ → Type 0 = HasRecords h j.len (records_at j.len places (d.seen device)) in
-    let text_is : c.deref-3.result.now ≡ places_text (places ++ p ∷ []) = c.deref-3.ensures.value ∙ c.in_ok-closed.ensures.text ∙ ap (λ (xs : List ℕ). places_text ((xs ++ j.growing ∷ []) ++ p ∷ [])) c.deref.ensures.value in
+    let text_is : c.deref-3.result.now ≡ regions_text c.torn_writes-torn.result (places ++ p ∷ []) = c.deref-3.ensures.value ∙ c.in_ok-closed.ensures.text ∙ ap (λ (xs : List ℕ). regions_text c.torn_writes-torn.result ((xs ++ j.growing ∷ []) ++ p ∷ [])) c.deref.ensures.value in
     let first : LeavesOnly d.moment d.left_since device mid P = c.clear_outside.ensures.any_moment honest_mid in
     let second : LeavesOnly d.moment d.left_since mid fin P = weakened d.moment d.left_since mid fin _ P (c.put_in_both.ensures.any_moment honest) (λ f either.
     while_named h j.len j.root.number p places (d.seen device) (d.seen mid) q.regions.small c.requires.free.small q.regions.behind c.requires.free.behind c.requires.free.apart names b.changes.beside b.zeros either.0 f
-    (subst (λ (k : ℕ). IsOldOrNew k (d.seen mid) (numbered either.0 (places_text (places ++ p ∷ []))) f) b.changes.half
+    (subst (λ (k : ℕ). IsOldOrNew k (d.seen mid) (numbered either.0 (regions_text c.torn_writes-torn.result (places ++ p ∷ []))) f) b.changes.half
     (subst (λ (text : List ℕ). IsOldOrNew blanked.log.device.len (d.seen mid) (numbered either.0 text) f) text_is either.2))) in
     runs_on d.moment d.left_since device mid fin P first second
 
@@ -98,11 +98,11 @@ returns-clause-any_moment g c = λ honest.
     let honest_mid = c.put_in_both.ensures.honest honest in
     let names = q.regions.names (c.clear_outside.ensures.changes.honest honest_mid) in
     let P : List ℕ → Type 0 = HasRecords h j.len (records_at j.len places (d.seen device)) in
-    let text_is : c.deref-3.result.now ≡ places_text (places ++ p ∷ []) = c.deref-3.ensures.value ∙ c.in_ok-closed.ensures.text ∙ ap (λ (xs : List ℕ). places_text ((xs ++ j.growing ∷ []) ++ p ∷ [])) c.deref.ensures.value in
+    let text_is : c.deref-3.result.now ≡ regions_text c.torn_writes-torn.result (places ++ p ∷ []) = c.deref-3.ensures.value ∙ c.in_ok-closed.ensures.text ∙ ap (λ (xs : List ℕ). regions_text c.torn_writes-torn.result ((xs ++ j.growing ∷ []) ++ p ∷ [])) c.deref.ensures.value in
     let first : LeavesOnly d.moment d.left_since device mid P = c.clear_outside.ensures.any_moment honest_mid in
     let second : LeavesOnly d.moment d.left_since mid fin P = weakened d.moment d.left_since mid fin _ P (c.put_in_both.ensures.any_moment honest) (λ f either.
     while_named h j.len j.root.number p places (d.seen device) (d.seen mid) q.regions.small c.requires.free.small q.regions.behind c.requires.free.behind c.requires.free.apart names b.changes.beside b.zeros either.0 f
-    (subst (λ (k : ℕ). IsOldOrNew k (d.seen mid) (numbered either.0 (places_text (places ++ p ∷ []))) f) b.changes.half
+    (subst (λ (k : ℕ). IsOldOrNew k (d.seen mid) (numbered either.0 (regions_text c.torn_writes-torn.result (places ++ p ∷ []))) f) b.changes.half
     (subst (λ (text : List ℕ). IsOldOrNew blanked.log.device.len (d.seen mid) (numbered either.0 text) f) text_is either.2))) in
     runs_on d.moment d.left_since device mid fin P first second
 
@@ -141,7 +141,7 @@ returns-clause-journal g c =
     let mid = d.seen blanked.log.device.device in
     let fin = d.seen new.log.device.device in
     let closed_is : c.in_ok-closed.closed.items ≡ places = c.in_ok-closed.ensures.closed ∙ ap (λ (xs : List ℕ). xs ++ j.growing ∷ []) c.deref.ensures.value in
-    let text_is : c.deref-3.result.now ≡ places_text all = c.deref-3.ensures.value ∙ c.in_ok-closed.ensures.text ∙ ap (λ (xs : List ℕ). places_text ((xs ++ j.growing ∷ []) ++ p ∷ [])) c.deref.ensures.value in
+    let text_is : c.deref-3.result.now ≡ regions_text c.torn_writes-torn.result all = c.deref-3.ensures.value ∙ c.in_ok-closed.ensures.text ∙ ap (λ (xs : List ℕ). regions_text c.torn_writes-torn.result ((xs ++ j.growing ∷ []) ++ p ∷ [])) c.deref.ensures.value in
     let half_is : new.log.device.len ≡ h = put.half ∙ b.changes.half in
     let behind : drop (h + h) fin ≡ drop (h + h) mid = subst (λ (k : ℕ). drop (k + k) fin ≡ drop (k + k) mid) b.changes.half put.behind in
     let long : length fin ≡ length old = omega (arith, ap length behind, length-drop (h + h) fin, length-drop (h + h) mid, b.changes.length, q.regions.root.room, put.root.room, half_is) in
@@ -158,7 +158,7 @@ returns-clause-journal g c =
         small = subst (λ (xs : List ℕ). Each (λ a. a < NUMBER_LIMIT) (xs ++ p ∷ [])) (sym closed_is) (each_more (λ a. a < NUMBER_LIMIT) places p q.regions.small c.requires.free.small);
         names = λ honest.
             put.text honest ∙ ap (λ (text : List ℕ). Some (numbered new.number text)) text_is
-            ∙ (λ i. Some (numbered new.number (places_text (sym closed_is i ++ p ∷ []))));
+            ∙ (λ i. Some (numbered new.number (regions_text c.torn_writes-torn.result (sym closed_is i ++ p ∷ []))));
       };
       log = blank_log c.clear_outside.new.self.len (part p c.clear_outside.new.self.len fin) (subst (λ (k : ℕ). part p k fin ≡ replicate k 0) (sym len_is) zeros);
     }
@@ -185,10 +185,10 @@ returns-in_err-put_in_both-clause-intact g c = λ now i.
     let b = c.in_ok-clear_outside.ensures in
     let honest_mid = c.put_in_both.ensures.honest now in
     let at = intact_at j q (b.changes.honest honest_mid) i in
-    let text_is : c.deref-3.result.now ≡ places_text (places ++ p ∷ []) = c.deref-3.ensures.value ∙ c.in_ok-closed.ensures.text ∙ ap (λ (xs : List ℕ). places_text ((xs ++ j.growing ∷ []) ++ p ∷ [])) c.deref.ensures.value in
+    let text_is : c.deref-3.result.now ≡ regions_text c.torn_writes-torn.result (places ++ p ∷ []) = c.deref-3.ensures.value ∙ c.in_ok-closed.ensures.text ∙ ap (λ (xs : List ℕ). regions_text c.torn_writes-torn.result ((xs ++ j.growing ∷ []) ++ p ∷ [])) c.deref.ensures.value in
     let named : (f : List ℕ) → IsOldOrPut blanked.log.device.len (d.seen mid) c.deref-3.result.now f → IsIntact h j.len f = λ f either.
-    with_next h j.len j.root.number j.closed.items j.growing (d.seen device) at p free.behind free.small free.within free.apart (d.seen mid) b.changes.beside (sound_blank j.len _ b.zeros) (log_closed (part j.growing j.len (d.seen device)) j.end c.requires.journal.log) either.0 either.1 f
-    (subst (λ (k : ℕ). IsOldOrNew k (d.seen mid) (numbered either.0 (places_text (places ++ p ∷ []))) f) b.changes.half
+    with_next h j.len j.root.number j.closed.items j.growing (d.seen device) at p free.behind free.small free.within free.apart (d.seen mid) b.changes.beside (sound_blank j.len _ b.zeros) (λ t. log_any t _ 0 (blank_log j.len _ b.zeros)) (log_closed (part j.growing j.len (d.seen device)) j.end c.requires.journal.log) c.torn_writes-torn.result either.0 either.1 f
+    (subst (λ (k : ℕ). IsOldOrNew k (d.seen mid) (numbered either.0 (regions_text c.torn_writes-torn.result (places ++ p ∷ []))) f) b.changes.half
     (subst (λ (text : List ℕ). IsOldOrNew blanked.log.device.len (d.seen mid) (numbered either.0 text) f) text_is either.2)) in
     let P : List ℕ → Type 0 = IsIntact h j.len in
     runs_on d.moment d.left_since device mid fin P (c.clear_outside.ensures.intact honest_mid i) (weakened d.moment d.left_since mid fin _ P (c.put_in_both.ensures.any_moment now) named)
@@ -209,10 +209,10 @@ returns-clause-intact g c = λ now i.
     let b = c.in_ok-clear_outside.ensures in
     let honest_mid = c.put_in_both.ensures.honest now in
     let at = intact_at j q (b.changes.honest honest_mid) i in
-    let text_is : c.deref-3.result.now ≡ places_text (places ++ p ∷ []) = c.deref-3.ensures.value ∙ c.in_ok-closed.ensures.text ∙ ap (λ (xs : List ℕ). places_text ((xs ++ j.growing ∷ []) ++ p ∷ [])) c.deref.ensures.value in
+    let text_is : c.deref-3.result.now ≡ regions_text c.torn_writes-torn.result (places ++ p ∷ []) = c.deref-3.ensures.value ∙ c.in_ok-closed.ensures.text ∙ ap (λ (xs : List ℕ). regions_text c.torn_writes-torn.result ((xs ++ j.growing ∷ []) ++ p ∷ [])) c.deref.ensures.value in
     let named : (f : List ℕ) → IsOldOrPut blanked.log.device.len (d.seen mid) c.deref-3.result.now f → IsIntact h j.len f = λ f either.
-    with_next h j.len j.root.number j.closed.items j.growing (d.seen device) at p free.behind free.small free.within free.apart (d.seen mid) b.changes.beside (sound_blank j.len _ b.zeros) (log_closed (part j.growing j.len (d.seen device)) j.end c.requires.journal.log) either.0 either.1 f
-    (subst (λ (k : ℕ). IsOldOrNew k (d.seen mid) (numbered either.0 (places_text (places ++ p ∷ []))) f) b.changes.half
+    with_next h j.len j.root.number j.closed.items j.growing (d.seen device) at p free.behind free.small free.within free.apart (d.seen mid) b.changes.beside (sound_blank j.len _ b.zeros) (λ t. log_any t _ 0 (blank_log j.len _ b.zeros)) (log_closed (part j.growing j.len (d.seen device)) j.end c.requires.journal.log) c.torn_writes-torn.result either.0 either.1 f
+    (subst (λ (k : ℕ). IsOldOrNew k (d.seen mid) (numbered either.0 (regions_text c.torn_writes-torn.result (places ++ p ∷ []))) f) b.changes.half
     (subst (λ (text : List ℕ). IsOldOrNew blanked.log.device.len (d.seen mid) (numbered either.0 text) f) text_is either.2)) in
     let P : List ℕ → Type 0 = IsIntact h j.len in
     runs_on d.moment d.left_since device mid fin P (c.clear_outside.ensures.intact honest_mid i) (weakened d.moment d.left_since mid fin _ P (c.put_in_both.ensures.any_moment now) named)
@@ -233,9 +233,9 @@ returns-clause-stays g c = λ now i.
     let b = c.in_ok-clear_outside.ensures in
     let honest_mid = c.put_in_both.ensures.honest now in
     let at = intact_at j q (b.changes.honest honest_mid) i in
-    let text_is : c.deref-3.result.now ≡ places_text (places ++ p ∷ []) = c.deref-3.ensures.value ∙ c.in_ok-closed.ensures.text ∙ ap (λ (xs : List ℕ). places_text ((xs ++ j.growing ∷ []) ++ p ∷ [])) c.deref.ensures.value in
+    let text_is : c.deref-3.result.now ≡ regions_text c.torn_writes-torn.result (places ++ p ∷ []) = c.deref-3.ensures.value ∙ c.in_ok-closed.ensures.text ∙ ap (λ (xs : List ℕ). regions_text c.torn_writes-torn.result ((xs ++ j.growing ∷ []) ++ p ∷ [])) c.deref.ensures.value in
     let named : (f : List ℕ) → IsOldOrPut blanked.log.device.len (d.seen mid) c.deref-3.result.now f → IsIntact h j.len f = λ f either.
-    with_next h j.len j.root.number j.closed.items j.growing (d.seen device) at p free.behind free.small free.within free.apart (d.seen mid) b.changes.beside (sound_blank j.len _ b.zeros) (log_closed (part j.growing j.len (d.seen device)) j.end c.requires.journal.log) either.0 either.1 f
-    (subst (λ (k : ℕ). IsOldOrNew k (d.seen mid) (numbered either.0 (places_text (places ++ p ∷ []))) f) b.changes.half
+    with_next h j.len j.root.number j.closed.items j.growing (d.seen device) at p free.behind free.small free.within free.apart (d.seen mid) b.changes.beside (sound_blank j.len _ b.zeros) (λ t. log_any t _ 0 (blank_log j.len _ b.zeros)) (log_closed (part j.growing j.len (d.seen device)) j.end c.requires.journal.log) c.torn_writes-torn.result either.0 either.1 f
+    (subst (λ (k : ℕ). IsOldOrNew k (d.seen mid) (numbered either.0 (regions_text c.torn_writes-torn.result (places ++ p ∷ []))) f) b.changes.half
     (subst (λ (text : List ℕ). IsOldOrNew blanked.log.device.len (d.seen mid) (numbered either.0 text) f) text_is either.2)) in
     named (d.seen fin) (c.in_ok-put_in_both.ensures.shown now)

@@ -4,13 +4,13 @@ use Rattle.std.specs.Prelude.{Some}
 use Rattle.cq_disk.specs.Device.{LeavesOnly}
 use Rattle.cq_disk.specs.Region.{part}
 use Rattle.cq_disk.proofs.Moments.{weakened, runs_on, started}
-use Rattle.cq_records.specs.Frames.{has_no_zero}
+use Rattle.cq_records.specs.Frames.{is_plain}
 use Rattle.cq_records.specs.Layout.{IsLog}
 use Rattle.cq_journal.specs.declared.number.TheConstants.{NUMBER_LIMIT}
-use Rattle.cq_journal.specs.Regions.{Each, AreApart, places_text, HasRecords, records_at}
+use Rattle.cq_journal.specs.Regions.{Each, AreApart, regions_text, HasRecords, records_at}
 use Rattle.cq_journal.specs.Roots.{numbered, IsOldOrNew, IsOldOrPut}
-use Rattle.cq_journal.proofs.Moves.{records_moved, while_moved}
-use Rattle.cq_journal.proofs.Regions.{kept_of, each_so, each_more, each_left, no_zero_places, part_same, places_long}
+use Rattle.cq_journal.proofs.Moves.{log_any, records_moved, while_moved}
+use Rattle.cq_journal.proofs.Regions.{kept_of, each_so, each_more, each_left, plain_text, part_same, places_long}
 use Rattle.cq_journal.specs.Intact.{IsIntact}
 use Rattle.cq_journal.proofs.Bases.{free_outside}
 use Rattle.cq_journal.proofs.Intact.{rests_intact, intact_at, outside_leaves, with_other}
@@ -22,7 +22,7 @@ text_of-requires-clause-closed g c =
 
 pub put_in_both-requires-clause-text : goal.put_in_both-requires-clause-text
 put_in_both-requires-clause-text g c =
-    ap has_no_zero (c.deref-3.ensures.value ∙ c.in_ok-text.ensures) ∙ no_zero_places (c.deref.result.now ++ c.args.place ∷ [])
+    ap is_plain (c.deref-3.ensures.value ∙ c.in_ok-text.ensures) ∙ plain_text c.torn_writes-torn.result (c.deref.result.now ++ c.args.place ∷ [])
 
 pub put_in_both-requires-clause-short : goal.put_in_both-requires-clause-short
 put_in_both-requires-clause-short g c =
@@ -70,11 +70,11 @@ returns-in_err-put_in_both-clause-any_moment g c = λ honest.
     let ok = c.in_ok-end.ensures in
     let honest_mid = c.put_in_both.ensures.honest honest in
     let root = q.names (c.copy_to.ensures.honest honest_mid) in
-    let text_is : c.deref-3.result.now ≡ places_text (ns ++ p ∷ []) = c.deref-3.ensures.value ∙ c.in_ok-text.ensures ∙ ap (λ (xs : List ℕ). places_text (xs ++ p ∷ [])) c.deref.ensures.value in
+    let text_is : c.deref-3.result.now ≡ regions_text c.torn_writes-torn.result (ns ++ p ∷ []) = c.deref-3.ensures.value ∙ c.in_ok-text.ensures ∙ ap (λ (xs : List ℕ). regions_text c.torn_writes-torn.result (xs ++ p ∷ [])) c.deref.ensures.value in
     let P : List ℕ → Type 0 = HasRecords h j.len (records_at j.len (ns ++ j.growing ∷ []) old) in
     let second : LeavesOnly d.moment d.left_since mid fin P = weakened d.moment d.left_since mid fin _ P (c.put_in_both.ensures.any_moment honest) (λ f either.
     while_moved h j.len j.root.number j.growing p ns old q.small q.behind q.apart root free.behind free.small free.apart (d.seen mid) ok.beside (ok.copied honest_mid) either.0 f
-    (subst (λ (k : ℕ). IsOldOrNew k (d.seen mid) (numbered either.0 (places_text (ns ++ p ∷ []))) f) c.copy_to.ensures.half
+    (subst (λ (k : ℕ). IsOldOrNew k (d.seen mid) (numbered either.0 (regions_text c.torn_writes-torn.result (ns ++ p ∷ []))) f) c.copy_to.ensures.half
     (subst (λ (text : List ℕ). IsOldOrNew copied.root.log.device.len (d.seen mid) (numbered either.0 text) f) text_is either.2))) in
     runs_on d.moment d.left_since device mid fin P (c.copy_to.ensures.any_moment honest_mid) second
 
@@ -95,11 +95,11 @@ returns-clause-any_moment g c = λ honest.
     let ok = c.in_ok-end.ensures in
     let honest_mid = c.put_in_both.ensures.honest honest in
     let root = q.names (c.copy_to.ensures.honest honest_mid) in
-    let text_is : c.deref-3.result.now ≡ places_text (ns ++ p ∷ []) = c.deref-3.ensures.value ∙ c.in_ok-text.ensures ∙ ap (λ (xs : List ℕ). places_text (xs ++ p ∷ [])) c.deref.ensures.value in
+    let text_is : c.deref-3.result.now ≡ regions_text c.torn_writes-torn.result (ns ++ p ∷ []) = c.deref-3.ensures.value ∙ c.in_ok-text.ensures ∙ ap (λ (xs : List ℕ). regions_text c.torn_writes-torn.result (xs ++ p ∷ [])) c.deref.ensures.value in
     let P : List ℕ → Type 0 = HasRecords h j.len (records_at j.len (ns ++ j.growing ∷ []) old) in
     let second : LeavesOnly d.moment d.left_since mid fin P = weakened d.moment d.left_since mid fin _ P (c.put_in_both.ensures.any_moment honest) (λ f either.
     while_moved h j.len j.root.number j.growing p ns old q.small q.behind q.apart root free.behind free.small free.apart (d.seen mid) ok.beside (ok.copied honest_mid) either.0 f
-    (subst (λ (k : ℕ). IsOldOrNew k (d.seen mid) (numbered either.0 (places_text (ns ++ p ∷ []))) f) c.copy_to.ensures.half
+    (subst (λ (k : ℕ). IsOldOrNew k (d.seen mid) (numbered either.0 (regions_text c.torn_writes-torn.result (ns ++ p ∷ []))) f) c.copy_to.ensures.half
     (subst (λ (text : List ℕ). IsOldOrNew copied.root.log.device.len (d.seen mid) (numbered either.0 text) f) text_is either.2))) in
     runs_on d.moment d.left_since device mid fin P (c.copy_to.ensures.any_moment honest_mid) second
 
@@ -147,7 +147,7 @@ returns-clause-journal g c =
     let closed_is : copied.closed.items ≡ ns = λ i. (same.0 i).items in
     let len_is : copied.len ≡ n = same.2 in
     let half_is : new.log.device.len ≡ h = put.half ∙ half in
-    let text_is : c.deref-3.result.now ≡ places_text all = c.deref-3.ensures.value ∙ c.in_ok-text.ensures ∙ ap (λ (xs : List ℕ). places_text (xs ++ p ∷ [])) c.deref.ensures.value in
+    let text_is : c.deref-3.result.now ≡ regions_text c.torn_writes-torn.result all = c.deref-3.ensures.value ∙ c.in_ok-text.ensures ∙ ap (λ (xs : List ℕ). regions_text c.torn_writes-torn.result (xs ++ p ∷ [])) c.deref.ensures.value in
     let behind : drop (h + h) fin ≡ drop (h + h) mid = subst (λ (k : ℕ). drop (k + k) fin ≡ drop (k + k) mid) half put.behind in
     let long : length fin ≡ length old = omega (arith, ap length behind, length-drop (h + h) fin, length-drop (h + h) mid, c.copy_to.ensures.length, q.root.room, put.root.room, half_is) in
     record {
@@ -162,7 +162,7 @@ returns-clause-journal g c =
         small = subst (λ (xs : List ℕ). Each (λ a. a < NUMBER_LIMIT) (xs ++ p ∷ [])) (sym closed_is) (each_more (λ a. a < NUMBER_LIMIT) ns p (each_left (λ a. a < NUMBER_LIMIT) ns j.growing q.small) free.small);
         names = λ honest.
             put.text honest ∙ ap (λ (text : List ℕ). Some (numbered new.number text)) text_is
-            ∙ (λ i. Some (numbered new.number (places_text (sym closed_is i ++ p ∷ []))));
+            ∙ (λ i. Some (numbered new.number (regions_text c.torn_writes-torn.result (sym closed_is i ++ p ∷ []))));
       };
       log = subst (λ (k : ℕ). IsLog (part p k fin) c.in_ok-end.end) (sym len_is) (subst (λ (bytes : List ℕ). IsLog bytes c.in_ok-end.end) (sym (part_same h n mid fin behind p free.behind)) ok.log);
     }
@@ -194,10 +194,10 @@ returns-in_err-put_in_both-clause-intact g c = λ now i.
     let ok = c.in_ok-end.ensures in
     let honest_mid = c.put_in_both.ensures.honest now in
     let at = intact_at j q (c.copy_to.ensures.honest honest_mid) i in
-    let text_is : c.deref-3.result.now ≡ places_text (ns ++ p ∷ []) = c.deref-3.ensures.value ∙ c.in_ok-text.ensures ∙ ap (λ (xs : List ℕ). places_text (xs ++ p ∷ [])) c.deref.ensures.value in
+    let text_is : c.deref-3.result.now ≡ regions_text c.torn_writes-torn.result (ns ++ p ∷ []) = c.deref-3.ensures.value ∙ c.in_ok-text.ensures ∙ ap (λ (xs : List ℕ). regions_text c.torn_writes-torn.result (xs ++ p ∷ [])) c.deref.ensures.value in
     let named : (f : List ℕ) → IsOldOrPut copied.root.log.device.len (d.seen mid) c.deref-3.result.now f → IsIntact h j.len f = λ f either.
-    with_other h j.len j.root.number ns j.growing (d.seen device) at p free.behind free.small free.within free.apart (d.seen mid) ok.beside ok.log.sound either.0 either.1 f
-    (subst (λ (k : ℕ). IsOldOrNew k (d.seen mid) (numbered either.0 (places_text (ns ++ p ∷ []))) f) c.copy_to.ensures.half
+    with_other h j.len j.root.number ns j.growing (d.seen device) at p free.behind free.small free.within free.apart (d.seen mid) ok.beside ok.log.sound (λ t. log_any t _ _ ok.log) c.torn_writes-torn.result either.0 either.1 f
+    (subst (λ (k : ℕ). IsOldOrNew k (d.seen mid) (numbered either.0 (regions_text c.torn_writes-torn.result (ns ++ p ∷ []))) f) c.copy_to.ensures.half
     (subst (λ (text : List ℕ). IsOldOrNew copied.root.log.device.len (d.seen mid) (numbered either.0 text) f) text_is either.2)) in
     let P : List ℕ → Type 0 = IsIntact h j.len in
     runs_on d.moment d.left_since device mid fin P (outside_leaves p j copied (free_outside j p free) q c.copy_to.ensures.honest c.copy_to.ensures.left honest_mid i)
@@ -219,10 +219,10 @@ returns-clause-intact g c = λ now i.
     let ok = c.in_ok-end.ensures in
     let honest_mid = c.put_in_both.ensures.honest now in
     let at = intact_at j q (c.copy_to.ensures.honest honest_mid) i in
-    let text_is : c.deref-3.result.now ≡ places_text (ns ++ p ∷ []) = c.deref-3.ensures.value ∙ c.in_ok-text.ensures ∙ ap (λ (xs : List ℕ). places_text (xs ++ p ∷ [])) c.deref.ensures.value in
+    let text_is : c.deref-3.result.now ≡ regions_text c.torn_writes-torn.result (ns ++ p ∷ []) = c.deref-3.ensures.value ∙ c.in_ok-text.ensures ∙ ap (λ (xs : List ℕ). regions_text c.torn_writes-torn.result (xs ++ p ∷ [])) c.deref.ensures.value in
     let named : (f : List ℕ) → IsOldOrPut copied.root.log.device.len (d.seen mid) c.deref-3.result.now f → IsIntact h j.len f = λ f either.
-    with_other h j.len j.root.number ns j.growing (d.seen device) at p free.behind free.small free.within free.apart (d.seen mid) ok.beside ok.log.sound either.0 either.1 f
-    (subst (λ (k : ℕ). IsOldOrNew k (d.seen mid) (numbered either.0 (places_text (ns ++ p ∷ []))) f) c.copy_to.ensures.half
+    with_other h j.len j.root.number ns j.growing (d.seen device) at p free.behind free.small free.within free.apart (d.seen mid) ok.beside ok.log.sound (λ t. log_any t _ _ ok.log) c.torn_writes-torn.result either.0 either.1 f
+    (subst (λ (k : ℕ). IsOldOrNew k (d.seen mid) (numbered either.0 (regions_text c.torn_writes-torn.result (ns ++ p ∷ []))) f) c.copy_to.ensures.half
     (subst (λ (text : List ℕ). IsOldOrNew copied.root.log.device.len (d.seen mid) (numbered either.0 text) f) text_is either.2)) in
     let P : List ℕ → Type 0 = IsIntact h j.len in
     runs_on d.moment d.left_since device mid fin P (outside_leaves p j copied (free_outside j p free) q c.copy_to.ensures.honest c.copy_to.ensures.left honest_mid i)
@@ -244,9 +244,9 @@ returns-clause-stays g c = λ now i.
     let ok = c.in_ok-end.ensures in
     let honest_mid = c.put_in_both.ensures.honest now in
     let at = intact_at j q (c.copy_to.ensures.honest honest_mid) i in
-    let text_is : c.deref-3.result.now ≡ places_text (ns ++ p ∷ []) = c.deref-3.ensures.value ∙ c.in_ok-text.ensures ∙ ap (λ (xs : List ℕ). places_text (xs ++ p ∷ [])) c.deref.ensures.value in
+    let text_is : c.deref-3.result.now ≡ regions_text c.torn_writes-torn.result (ns ++ p ∷ []) = c.deref-3.ensures.value ∙ c.in_ok-text.ensures ∙ ap (λ (xs : List ℕ). regions_text c.torn_writes-torn.result (xs ++ p ∷ [])) c.deref.ensures.value in
     let named : (f : List ℕ) → IsOldOrPut copied.root.log.device.len (d.seen mid) c.deref-3.result.now f → IsIntact h j.len f = λ f either.
-    with_other h j.len j.root.number ns j.growing (d.seen device) at p free.behind free.small free.within free.apart (d.seen mid) ok.beside ok.log.sound either.0 either.1 f
-    (subst (λ (k : ℕ). IsOldOrNew k (d.seen mid) (numbered either.0 (places_text (ns ++ p ∷ []))) f) c.copy_to.ensures.half
+    with_other h j.len j.root.number ns j.growing (d.seen device) at p free.behind free.small free.within free.apart (d.seen mid) ok.beside ok.log.sound (λ t. log_any t _ _ ok.log) c.torn_writes-torn.result either.0 either.1 f
+    (subst (λ (k : ℕ). IsOldOrNew k (d.seen mid) (numbered either.0 (regions_text c.torn_writes-torn.result (ns ++ p ∷ []))) f) c.copy_to.ensures.half
     (subst (λ (text : List ℕ). IsOldOrNew copied.root.log.device.len (d.seen mid) (numbered either.0 text) f) text_is either.2)) in
     named (d.seen fin) (c.in_ok-put_in_both.ensures.shown now)

@@ -87,12 +87,12 @@ returns-clause-stays g c = λ honest i.
 pub returns-in_err-found-clause-damaged : goal.returns-in_err-found-clause-damaged
 returns-in_err-found-clause-damaged g c = λ err.
     let is : IsErrOf c.read_root.result ReadDamaged = search rules in
-    (c.read_root.new.region.device, λ honest i. c.read_root.ensures.damaged is honest i.3.halves)
+    (c.read_root.new.region.device, λ honest i. c.read_root.ensures.damaged is honest i.4.halves)
 
 pub returns-in_default-clause-nothing : goal.returns-in_default-clause-nothing
 returns-in_default-clause-nothing g c = λ err. (
   c.read_root.new.region.device,
-  λ honest i. (subst (λ (o : Option Found). MatchOption o (IsTrue (g.D.Device.is_honest c.read_root.new.region.device) → HasSoundHalves c.args.half (g.D.Device.seen c.args.device) → ⊥) (λ _. ⊤)) c.in_default.is c.in_ok-found.ensures.none) honest i.3.halves,
+  λ honest i. (subst (λ (o : Option Found). MatchOption o (IsTrue (g.D.Device.is_honest c.read_root.new.region.device) → HasSoundHalves c.args.half (g.D.Device.seen c.args.device) → ⊥) (λ _. ⊤)) c.in_default.is c.in_ok-found.ensures.none) honest i.4.halves,
 )
 
 pub returns-in_err-journal-clause-damaged : goal.returns-in_err-journal-clause-damaged

@@ -2,14 +2,15 @@
 use Rattle.std.proofs.Common.{◌≡◌, inl, ℕ, ◌+◌, ◌<◌, ◌≤◌, List, [], ◌∷◌, ◌++◌, length, sym, ◌∙◌, ap, subst, arith, length-drop, length-append}
 use Rattle.std.specs.Prelude.{Some}
 use Rattle.cq_disk.proofs.Moments.{weakened, started}
-use Rattle.cq_records.specs.Frames.{has_no_zero}
+use Rattle.cq_records.specs.Frames.{is_plain}
 use Rattle.cq_records.specs.Layout.{IsLog}
 use Rattle.cq_journal.specs.declared.number.TheConstants.{NUMBER_LIMIT}
 use Rattle.cq_journal.specs.Base.{base_places, HasEitherRecords}
-use Rattle.cq_journal.specs.Regions.{Each, AreApart, places_text, records_at}
+use Rattle.cq_journal.specs.Regions.{Each, AreApart, regions_text, records_at}
 use Rattle.cq_journal.specs.Roots.{numbered, IsOldOrNew, IsOldOrPut}
 use Rattle.cq_journal.proofs.Bases.{while_rewritten, transposed, apart_back, each_both}
-use Rattle.cq_journal.proofs.Regions.{each_left, each_so, kept_of, last_of, no_zero_places, part_same, places_long, records_same}
+use Rattle.cq_journal.proofs.Moves.{log_any}
+use Rattle.cq_journal.proofs.Regions.{each_left, each_so, kept_of, last_of, plain_text, part_same, places_long, records_same}
 use Rattle.cq_journal.specs.Intact.{IsIntact}
 use Rattle.cq_journal.proofs.Intact.{rests_intact, intact_at, named_intact}
 use Rattle.cq_journal.proofs.journal.Journal.rewrite.Goals as goal
@@ -22,7 +23,7 @@ pub text_of-requires-clause-growing : goal.text_of-requires-clause-growing
 text_of-requires-clause-growing g c = last_of (λ n. n < NUMBER_LIMIT) c.args.base.closed.items c.args.base.growing c.requires.base.small
 
 pub put_in_both-requires-clause-text : goal.put_in_both-requires-clause-text
-put_in_both-requires-clause-text g c = ap has_no_zero (c.deref-3.ensures.value ∙ c.in_ok-text.ensures) ∙ no_zero_places (c.deref.result.now ++ c.args.base.growing ∷ [])
+put_in_both-requires-clause-text g c = ap is_plain (c.deref-3.ensures.value ∙ c.in_ok-text.ensures) ∙ plain_text c.torn_writes-torn.result (c.deref.result.now ++ c.args.base.growing ∷ [])
 
 pub put_in_both-requires-clause-short : goal.put_in_both-requires-clause-short
 put_in_both-requires-clause-short g c =
@@ -64,7 +65,7 @@ returns-in_err-put_in_both-clause-any_moment g c = λ honest.
     let old = d.seen device in
     let ns : List ℕ = j.closed.items ++ j.growing ∷ [] in
     let bs : List ℕ = base_places b in
-    let text_is : c.deref-3.result.now ≡ places_text bs = c.deref-3.ensures.value ∙ c.in_ok-text.ensures ∙ ap (λ (xs : List ℕ). places_text (xs ++ b.growing ∷ [])) c.deref.ensures.value in
+    let text_is : c.deref-3.result.now ≡ regions_text c.torn_writes-torn.result bs = c.deref-3.ensures.value ∙ c.in_ok-text.ensures ∙ ap (λ (xs : List ℕ). regions_text c.torn_writes-torn.result (xs ++ b.growing ∷ [])) c.deref.ensures.value in
     weakened d.moment d.left_since device c.put_in_both.new.self.log.device.device _ (HasEitherRecords h j.len (records_at j.len ns old) (records_at j.len bs old)) (c.put_in_both.ensures.any_moment honest) (λ f either.
     while_rewritten h j.len n either.0 ns bs old q.small c.requires.base.small q.behind c.requires.base.behind (q.names (c.put_in_both.ensures.honest honest)) f
     (subst (λ (text : List ℕ). IsOldOrNew h old (numbered either.0 text) f) text_is either.2))
@@ -81,7 +82,7 @@ returns-clause-any_moment g c = λ honest.
     let old = d.seen device in
     let ns : List ℕ = j.closed.items ++ j.growing ∷ [] in
     let bs : List ℕ = base_places b in
-    let text_is : c.deref-3.result.now ≡ places_text bs = c.deref-3.ensures.value ∙ c.in_ok-text.ensures ∙ ap (λ (xs : List ℕ). places_text (xs ++ b.growing ∷ [])) c.deref.ensures.value in
+    let text_is : c.deref-3.result.now ≡ regions_text c.torn_writes-torn.result bs = c.deref-3.ensures.value ∙ c.in_ok-text.ensures ∙ ap (λ (xs : List ℕ). regions_text c.torn_writes-torn.result (xs ++ b.growing ∷ [])) c.deref.ensures.value in
     weakened d.moment d.left_since device c.put_in_both.new.self.log.device.device _ (HasEitherRecords h j.len (records_at j.len ns old) (records_at j.len bs old)) (c.put_in_both.ensures.any_moment honest) (λ f either.
     while_rewritten h j.len n either.0 ns bs old q.small c.requires.base.small q.behind c.requires.base.behind (q.names (c.put_in_both.ensures.honest honest)) f
     (subst (λ (text : List ℕ). IsOldOrNew h old (numbered either.0 text) f) text_is either.2))
@@ -105,7 +106,7 @@ returns-clause-journal g c =
     let new = c.put_in_both.new.self in
     let old = d.seen j.root.log.device.device in
     let fin = d.seen new.log.device.device in
-    let text_is : c.deref-3.result.now ≡ places_text bs = c.deref-3.ensures.value ∙ c.in_ok-text.ensures ∙ ap (λ (xs : List ℕ). places_text (xs ++ b.growing ∷ [])) c.deref.ensures.value in
+    let text_is : c.deref-3.result.now ≡ regions_text c.torn_writes-torn.result bs = c.deref-3.ensures.value ∙ c.in_ok-text.ensures ∙ ap (λ (xs : List ℕ). regions_text c.torn_writes-torn.result (xs ++ b.growing ∷ [])) c.deref.ensures.value in
     let long : length fin ≡ length old = omega (arith, ap length put.behind, length-drop (h + h) fin, length-drop (h + h) old, q.root.room, put.root.room, put.half) in
     record {
       regions = record {
@@ -168,9 +169,9 @@ returns-in_err-put_in_both-clause-intact g c = λ now i.
     let old = d.seen device in
     let bs : List ℕ = base_places b in
     let at = intact_at j q (c.put_in_both.ensures.honest now) i in
-    let text_is : c.deref-3.result.now ≡ places_text bs = c.deref-3.ensures.value ∙ c.in_ok-text.ensures ∙ ap (λ (xs : List ℕ). places_text (xs ++ b.growing ∷ [])) c.deref.ensures.value in
+    let text_is : c.deref-3.result.now ≡ regions_text c.torn_writes-torn.result bs = c.deref-3.ensures.value ∙ c.in_ok-text.ensures ∙ ap (λ (xs : List ℕ). regions_text c.torn_writes-torn.result (xs ++ b.growing ∷ [])) c.deref.ensures.value in
     let named : (f : List ℕ) → IsOldOrPut h old c.deref-3.result.now f → IsIntact h j.len f = λ f either.
-    named_intact h j.len n j.closed.items j.growing old at either.0 b.closed.items b.growing either.1 base.small base.behind base.within base.alone base.sound base.closed_logs f
+    named_intact h j.len n j.closed.items j.growing old at c.torn_writes-torn.result either.0 b.closed.items b.growing either.1 base.small base.behind base.within base.alone base.sound base.closed_logs (log_any c.torn_writes-torn.result _ _ base.log) f
     (subst (λ (text : List ℕ). IsOldOrNew h old (numbered either.0 text) f) text_is either.2) in
     weakened d.moment d.left_since device c.put_in_both.new.self.log.device.device _ (IsIntact h j.len) (c.put_in_both.ensures.any_moment now) named
 
@@ -187,9 +188,9 @@ returns-clause-intact g c = λ now i.
     let old = d.seen device in
     let bs : List ℕ = base_places b in
     let at = intact_at j q (c.put_in_both.ensures.honest now) i in
-    let text_is : c.deref-3.result.now ≡ places_text bs = c.deref-3.ensures.value ∙ c.in_ok-text.ensures ∙ ap (λ (xs : List ℕ). places_text (xs ++ b.growing ∷ [])) c.deref.ensures.value in
+    let text_is : c.deref-3.result.now ≡ regions_text c.torn_writes-torn.result bs = c.deref-3.ensures.value ∙ c.in_ok-text.ensures ∙ ap (λ (xs : List ℕ). regions_text c.torn_writes-torn.result (xs ++ b.growing ∷ [])) c.deref.ensures.value in
     let named : (f : List ℕ) → IsOldOrPut h old c.deref-3.result.now f → IsIntact h j.len f = λ f either.
-    named_intact h j.len n j.closed.items j.growing old at either.0 b.closed.items b.growing either.1 base.small base.behind base.within base.alone base.sound base.closed_logs f
+    named_intact h j.len n j.closed.items j.growing old at c.torn_writes-torn.result either.0 b.closed.items b.growing either.1 base.small base.behind base.within base.alone base.sound base.closed_logs (log_any c.torn_writes-torn.result _ _ base.log) f
     (subst (λ (text : List ℕ). IsOldOrNew h old (numbered either.0 text) f) text_is either.2) in
     weakened d.moment d.left_since device c.put_in_both.new.self.log.device.device _ (IsIntact h j.len) (c.put_in_both.ensures.any_moment now) named
 
@@ -206,8 +207,8 @@ returns-clause-stays g c = λ now i.
     let old = d.seen device in
     let bs : List ℕ = base_places b in
     let at = intact_at j q (c.put_in_both.ensures.honest now) i in
-    let text_is : c.deref-3.result.now ≡ places_text bs = c.deref-3.ensures.value ∙ c.in_ok-text.ensures ∙ ap (λ (xs : List ℕ). places_text (xs ++ b.growing ∷ [])) c.deref.ensures.value in
+    let text_is : c.deref-3.result.now ≡ regions_text c.torn_writes-torn.result bs = c.deref-3.ensures.value ∙ c.in_ok-text.ensures ∙ ap (λ (xs : List ℕ). regions_text c.torn_writes-torn.result (xs ++ b.growing ∷ [])) c.deref.ensures.value in
     let named : (f : List ℕ) → IsOldOrPut h old c.deref-3.result.now f → IsIntact h j.len f = λ f either.
-    named_intact h j.len n j.closed.items j.growing old at either.0 b.closed.items b.growing either.1 base.small base.behind base.within base.alone base.sound base.closed_logs f
+    named_intact h j.len n j.closed.items j.growing old at c.torn_writes-torn.result either.0 b.closed.items b.growing either.1 base.small base.behind base.within base.alone base.sound base.closed_logs (log_any c.torn_writes-torn.result _ _ base.log) f
     (subst (λ (text : List ℕ). IsOldOrNew h old (numbered either.0 text) f) text_is either.2) in
     named (d.seen c.put_in_both.new.self.log.device.device) (c.in_ok-put_in_both.ensures.shown now)

@@ -60,10 +60,10 @@ returns-clause-any_moment g c =
     let n = c.args.len in
     let before = frames (part p n (g.D.Device.seen r.log.device.device)) in
     let batch = frames (batch_bytes c.args.batch.now) in
-    let prefix : (x : List ℕ) → Leaves p n (g.D.Device.left_since new.device.device (g.D.Device.moment r.log.device.device)) x → IsPrefixOf before batch x = λ x left.
+    let prefix : (x : List ℕ) → Leaves p n (g.D.Device.left_since new.device.device (g.D.Device.moment r.log.device.device)) x → IsPrefixOf (g.D.Device.torn r.log.device.device) before batch x = λ x left.
     c.commit-done.ensures.any_moment.each x (left.0, left.1, left.2 ∙ sym (λ i. part (k.same_start i) (k.same_len i) left.0)) in
     alone g.D.Device.moment g.D.Device.left_since g.D.Device.may_leave g.D.Device.keeps g.D.Device.seen g.met.D.Device.splits p n _ _
-    r.log.device.device new.device.device (IsPrefixOf before batch) k c.requires.root.durable prefix
+    r.log.device.device new.device.device (IsPrefixOf (g.D.Device.torn r.log.device.device) before batch) k c.requires.root.durable prefix
 
 pub returns-clause-full : goal.returns-clause-full
 returns-clause-full g c err =

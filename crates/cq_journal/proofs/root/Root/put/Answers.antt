@@ -7,11 +7,12 @@ use Rattle.cq_disk.proofs.Parts.{alone, whole_again}
 use Rattle.cq_disk.proofs.Moments.{weakened, runs_on}
 use Rattle.cq_records.specs.Batch.{batch_bytes}
 use Rattle.cq_records.specs.Frames.{text_of, frames, records, joined, all_sound}
+use Rattle.cq_disk.specs.declared.device.TornWrites.TheVariants.{Any}
 use Rattle.cq_records.specs.Layout.{IsPrefixOf}
 use Rattle.cq_records.proofs.Frames.{of_zeros}
 use Rattle.cq_journal.specs.Numbers.{number_of}
 use Rattle.cq_journal.specs.Roots.{first_of, number_in, half_of, root_of, numbered, IsSameRoot, IsOldOrNew}
-use Rattle.cq_journal.proofs.Halves.{number_back, behind_kept, same_half, turned_place, turned_back, new_counts, old_or_new, beside_at, still_room}
+use Rattle.cq_journal.proofs.Halves.{any_prefix, number_back, behind_kept, same_half, turned_place, turned_back, new_counts, old_or_new, beside_at, still_room}
 use Rattle.cq_journal.proofs.root.Root.put.Goals as goal
 
 pub commit-requires : goal.commit-requires
@@ -30,6 +31,15 @@ commit-requires g c =
       };
       durable = λ x left. left.2 ∙ ap (λ (f : List ℕ). part turned.log.device.start n f) (t.durable left.0 left.1);
     }
+
+pub returns-in_err-turn-clause-any_moment : goal.returns-in_err-turn-clause-any_moment
+returns-in_err-turn-clause-any_moment g c = λ honest.
+    let r = c.args.self.now in
+    let h = r.log.device.len in
+    let old = g.D.Device.seen r.log.device.device in
+    let new = numbered (r.number + 1) c.args.text.now in
+    weakened g.D.Device.moment g.D.Device.left_since r.log.device.device c.turn.new.self.log.device.device (IsSameRoot h old) (IsOldOrNew h old new) (c.turn.ensures.any_moment honest)
+    (λ f same. record { root = inl same.root; behind = same.behind; long = same.long; sound = same.sound })
 
 pub returns-in_err-commit-clause-any_moment : goal.returns-in_err-commit-clause-any_moment
 returns-in_err-commit-clause-any_moment g c = λ honest.
@@ -52,15 +62,15 @@ returns-in_err-commit-clause-any_moment g c = λ honest.
     let first : LeavesOnly g.D.Device.moment g.D.Device.left_since r.log.device.device turned.log.device.device P =
     weakened g.D.Device.moment g.D.Device.left_since r.log.device.device turned.log.device.device (IsSameRoot h old) P (c.turn.ensures.any_moment honest_turned) (λ f same. record { root = inl same.root; behind = same.behind; long = same.long; sound = same.sound }) in
     let k = c.commit.ensures.keeps in
-    let prefix : (x : List ℕ) → Leaves turned.log.device.start turned.log.device.len (g.D.Device.left_since c.commit.new.self.device.device (g.D.Device.moment turned.log.device.device)) x → IsPrefixOf [] (frames batch) x = λ x left.
+    let prefix : (x : List ℕ) → Leaves turned.log.device.start turned.log.device.len (g.D.Device.left_since c.commit.new.self.device.device (g.D.Device.moment turned.log.device.device)) x → IsPrefixOf (g.D.Device.torn turned.log.device.device) [] (frames batch) x = λ x left.
     let it = c.commit.ensures.any_moment.each x (left.0, left.1, left.2 ∙ sym (λ i. part (k.same_start i) (k.same_len i) left.0)) in
-    record { many = it.many; frames = it.frames ∙ ap (λ (fs : List (List ℕ)). fs ++ take it.many (frames batch)) none } in
+    record { many = it.many; frames = it.frames ∙ ap (λ (fs : List (List ℕ)). fs ++ take it.many (frames batch)) none; rest = it.rest } in
     let run = alone g.D.Device.moment g.D.Device.left_since g.D.Device.may_leave g.D.Device.keeps g.D.Device.seen g.met.D.Device.splits turned.log.device.start turned.log.device.len _ _
-    turned.log.device.device c.commit.new.self.device.device (IsPrefixOf [] (frames batch)) k t.durable prefix in
+    turned.log.device.device c.commit.new.self.device.device (IsPrefixOf (g.D.Device.torn turned.log.device.device) [] (frames batch)) k t.durable prefix in
     let second : LeavesOnly g.D.Device.moment g.D.Device.left_since turned.log.device.device c.commit.new.self.device.device P =
     weakened g.D.Device.moment g.D.Device.left_since turned.log.device.device c.commit.new.self.device.device _ P run (λ f both.
     let same : part turned.log.device.start turned.log.device.len f ≡ part (h - s) h f = λ i. part (t.start i) (t.half i) f in
-    old_or_new h s q.place old r.number (q.current honest_old) (q.other honest_old) new (frames batch) c.in_ok-batch.ensures.records next c.in_ok-batch.batch.batch.sound f (subst (λ (x : List ℕ). IsPrefixOf [] (frames batch) x) same both.0)
+    old_or_new h s q.place old r.number (q.current honest_old) (q.other honest_old) new (frames batch) c.in_ok-batch.ensures.records next c.in_ok-batch.batch.batch.sound f (subst (λ (x : List ℕ). IsPrefixOf (g.D.Device.torn turned.log.device.device) [] (frames batch) x) same both.0)
     (beside_both (h - s) h old mid f beside_mid (beside_at _ _ _ _ mid f t.start t.half both.1))) in
     runs_on g.D.Device.moment g.D.Device.left_since r.log.device.device turned.log.device.device c.commit.new.self.device.device P first second
 
@@ -85,15 +95,15 @@ returns-clause-any_moment g c = λ honest.
     let first : LeavesOnly g.D.Device.moment g.D.Device.left_since r.log.device.device turned.log.device.device P =
     weakened g.D.Device.moment g.D.Device.left_since r.log.device.device turned.log.device.device (IsSameRoot h old) P (c.turn.ensures.any_moment honest_turned) (λ f same. record { root = inl same.root; behind = same.behind; long = same.long; sound = same.sound }) in
     let k = c.commit.ensures.keeps in
-    let prefix : (x : List ℕ) → Leaves turned.log.device.start turned.log.device.len (g.D.Device.left_since c.commit.new.self.device.device (g.D.Device.moment turned.log.device.device)) x → IsPrefixOf [] (frames batch) x = λ x left.
+    let prefix : (x : List ℕ) → Leaves turned.log.device.start turned.log.device.len (g.D.Device.left_since c.commit.new.self.device.device (g.D.Device.moment turned.log.device.device)) x → IsPrefixOf (g.D.Device.torn turned.log.device.device) [] (frames batch) x = λ x left.
     let it = c.commit.ensures.any_moment.each x (left.0, left.1, left.2 ∙ sym (λ i. part (k.same_start i) (k.same_len i) left.0)) in
-    record { many = it.many; frames = it.frames ∙ ap (λ (fs : List (List ℕ)). fs ++ take it.many (frames batch)) none } in
+    record { many = it.many; frames = it.frames ∙ ap (λ (fs : List (List ℕ)). fs ++ take it.many (frames batch)) none; rest = it.rest } in
     let run = alone g.D.Device.moment g.D.Device.left_since g.D.Device.may_leave g.D.Device.keeps g.D.Device.seen g.met.D.Device.splits turned.log.device.start turned.log.device.len _ _
-    turned.log.device.device c.commit.new.self.device.device (IsPrefixOf [] (frames batch)) k t.durable prefix in
+    turned.log.device.device c.commit.new.self.device.device (IsPrefixOf (g.D.Device.torn turned.log.device.device) [] (frames batch)) k t.durable prefix in
     let second : LeavesOnly g.D.Device.moment g.D.Device.left_since turned.log.device.device c.commit.new.self.device.device P =
     weakened g.D.Device.moment g.D.Device.left_since turned.log.device.device c.commit.new.self.device.device _ P run (λ f both.
     let same : part turned.log.device.start turned.log.device.len f ≡ part (h - s) h f = λ i. part (t.start i) (t.half i) f in
-    old_or_new h s q.place old r.number (q.current honest_old) (q.other honest_old) new (frames batch) c.in_ok-batch.ensures.records next c.in_ok-batch.batch.batch.sound f (subst (λ (x : List ℕ). IsPrefixOf [] (frames batch) x) same both.0)
+    old_or_new h s q.place old r.number (q.current honest_old) (q.other honest_old) new (frames batch) c.in_ok-batch.ensures.records next c.in_ok-batch.batch.batch.sound f (subst (λ (x : List ℕ). IsPrefixOf (g.D.Device.torn turned.log.device.device) [] (frames batch) x) same both.0)
     (beside_both (h - s) h old mid f beside_mid (beside_at _ _ _ _ mid f t.start t.half both.1))) in
     runs_on g.D.Device.moment g.D.Device.left_since r.log.device.device turned.log.device.device c.commit.new.self.device.device P first second
 
@@ -189,7 +199,7 @@ returns-clause-shown g c = λ honest.
     let beside : Beside (h - s) h old fin = beside_both (h - s) h old mid fin (beside_at _ _ _ _ old mid t.start t.half t.beside) (beside_at _ _ _ _ mid fin t.start t.half k.shown) in
     let honest_old : IsTrue (g.D.Device.is_honest r.log.device.device) = c.turn.ensures.honest (sym c.commit.ensures.honest ∙ honest) in
     let frames_are : frames (part (h - s) h fin) ≡ frames batch = sym (ap frames moved) ∙ c.in_ok-commit.ensures.acknowledged ∙ ap (λ (fs : List (List ℕ)). fs ++ frames batch) none in
-    let all : IsPrefixOf [] (frames batch) (part (h - s) h fin) = record { many = length (frames batch); frames = frames_are ∙ sym (take_all (length (frames batch)) (frames batch) (omega arith)) } in
+    let all : IsPrefixOf Any [] (frames batch) (part (h - s) h fin) = any_prefix [] (frames batch) (part (h - s) h fin) (length (frames batch)) (frames_are ∙ sym (take_all (length (frames batch)) (frames batch) (omega arith))) in
     old_or_new h s q.place old r.number (q.current honest_old) (q.other honest_old) new (frames batch) c.in_ok-batch.ensures.records next c.in_ok-batch.batch.batch.sound fin all beside
 
 pub returns-clause-half : goal.returns-clause-half

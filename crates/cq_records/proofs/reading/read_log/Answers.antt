@@ -1,25 +1,25 @@
 -- The text of a record more.
 use Rattle.std.proofs.Common.{◌≡◌, ◌≤◌, ◌∙◌, ℕ, List, length, drop, sym, ap, subst, arith}
-use Rattle.std.specs.Prelude.{[], ◌++◌, ◌+◌, IsTrue, IfSome, MatchOption}
+use Rattle.std.specs.Prelude.{true, [], ◌++◌, ◌+◌, IsTrue, IfSome, MatchOption}
 use Rattle.cq_disk.proofs.Moments.{runs_on, weakened}
-use Rattle.cq_records.specs.Frames.{frames, BeginsWith}
+use Rattle.cq_records.specs.Frames.{frames, may_follow, BeginsWith}
 use Rattle.cq_records.proofs.Steps.{one_counted, same_end, text_added, still_unsound}
-use Rattle.cq_records.proofs.reading.read_texts.Goals as goal
+use Rattle.cq_records.proofs.reading.read_log.Goals as goal
 
 pub loop-found-preserved : goal.loop-found-preserved
 loop-found-preserved g c =
     let d = g.D.Device in
     let i = c.loop-found.invariant in
-    let e = c.read_record.ensures in
+    let e = c.next_record.ensures in
     let found = c.in-Some.found in
     let old = d.seen c.args.device.now in
     let now = c.loop-found.device in
-    let new = c.read_record.new.device in
+    let new = c.next_record.new.device in
     let behind : (found.behind ≡ c.loop-found.at + 9 + length found.text.items) × (found.behind ≤ length (d.seen now)) =
     subst (λ (o : _). IfSome o (λ it. (it.behind ≡ c.loop-found.at + 9 + length it.text.items) × (it.behind ≤ length (d.seen now)))) c.in-Some.is c.in_ok-found.ensures.behind in
     let begins : IsTrue (d.is_honest new) → BeginsWith found.text.items (drop c.loop-found.at old) = λ honest.
     subst (λ (bytes : List ℕ). BeginsWith found.text.items (drop c.loop-found.at bytes)) i.seen
-    (subst (λ (o : _). MatchOption o (frames (drop c.loop-found.at (d.seen now)) ≡ []) (λ it. BeginsWith it.text.items (drop c.loop-found.at (d.seen now)))) c.in-Some.is (c.in_ok-found.ensures.found honest)) in
+    (subst (λ (o : _). MatchOption o ((frames (drop c.loop-found.at (d.seen now)) ≡ []) × (may_follow c.args.behind (drop c.loop-found.at (d.seen now)) ≡ true)) (λ it. BeginsWith it.text.items (drop c.loop-found.at (d.seen now)))) c.in-Some.is (c.in_ok-found.ensures.found honest)) in
     record {
       within = subst (λ (bytes : List ℕ). found.behind ≤ length bytes) (sym e.seen) behind.1;
       seen = e.seen ∙ i.seen;
