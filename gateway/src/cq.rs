@@ -15,6 +15,7 @@ use tokio::io::AsyncReadExt;
 use tokio::net::UnixStream;
 use tokio::process::{Child, ChildStderr, Command};
 
+use crate::disk::lack_of_space;
 use crate::pipes::{Input, Output};
 
 /// Why there is no program to work with.
@@ -80,6 +81,8 @@ pub struct Cq {
     pub output: Output,
     /// Of one that keeps a journal: what it says of its end.
     errors: Option<ChildStderr>,
+    /// The file of that journal.
+    file: Option<PathBuf>,
 }
 
 /// The file in which a program keeps what it is told.
@@ -189,13 +192,14 @@ impl Cq {
         if file.is_some() {
             output.patience = Duration::MAX;
         }
-        Ok(Cq { process: Some(process), input: Input::new(input), output, errors })
+        let file = file.map(|file| file.path.clone());
+        Ok(Cq { process: Some(process), input: Input::new(input), output, errors, file })
     }
 
     /// What has the other end of this socket is a node.
     pub fn of_node(socket: UnixStream) -> Cq {
         let (output, input) = socket.into_split();
-        Cq { process: None, input: Input::of_node(input), output: Output::of_node(output), errors: None }
+        Cq { process: None, input: Input::of_node(input), output: Output::of_node(output), errors: None, file: None }
     }
 
     /// Starts so many servers without files, each of which has `patience` for an answer.
@@ -230,8 +234,15 @@ impl Cq {
         let said = String::from_utf8_lossy(&said);
         match (read, said.trim()) {
             (_, "") => String::new(),
-            (_, words) => format!(": {words}"),
+            (_, words) => format!(": {words}{}", self.lack_of_space(words)),
         }
+    }
+
+    /// That its file lacks space, where it says that a call on that failed.
+    fn lack_of_space(&self, words: &str) -> String {
+        let Some(file) = &self.file else { return String::new() };
+        let length = std::fs::metadata(file).map_or(0, |there| there.len());
+        lack_of_space(words, file, length)
     }
 
     /// Ends the program, and all that it started, and waits for its end.

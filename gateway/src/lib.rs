@@ -21,6 +21,7 @@ mod cq;
 mod delays;
 mod deliveries;
 mod digests;
+mod disk;
 mod draw;
 mod ending;
 mod errors;

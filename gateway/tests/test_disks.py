@@ -33,7 +33,8 @@ def test_a_first_start_on_a_full_disk_ends_and_leaves_nothing(tmp_path, small_di
     words = ["--journal", str(disk / "journal"), "--journal-size", "96MiB"]
     for _ in range(3):
         ended = run("--port", "0", *words)
-        assert ended.returncode == 1 and "JournalFailed" in ended.stderr, ended.stderr
+        assert ended.returncode == 1 and "JournalFailed, and its disk has " in ended.stderr, ended.stderr
+        assert " MiB too little for all of it" in ended.stderr, ended.stderr
         assert set(os.listdir(disk)) <= {"filler", "journal.lock"}
     filler.unlink()
     gateway = Started(*words)
@@ -70,4 +71,14 @@ def test_a_disk_that_is_filled_later_takes_nothing_from_a_journal(tmp_path, smal
         filler.unlink()
         gateway.kill()
         gateway.start()
+    assert gateway.stop() == 0
+
+
+def test_a_backup_to_a_full_disk_says_what_it_lacks_and_leaves_nothing(tmp_path, small_disk):
+    disk = small_disk("24m")
+    gateway = Started("--journal", str(tmp_path / "journal"))
+    ByJson(gateway.url)("CreateQueue", QueueName="q")
+    ended = run("backup", str(tmp_path / "journal"), str(disk / "copy"))
+    assert ended.returncode == 1 and "JournalFailed, and its disk has " in ended.stderr, ended.stderr
+    assert os.listdir(disk) == []
     assert gateway.stop() == 0

@@ -7,9 +7,10 @@ use std::io::Write;
 use std::path::{Path, PathBuf};
 use std::process::{Command, Stdio};
 
-use anyhow::{bail, Context, Result};
+use anyhow::{anyhow, bail, Context, Result};
 use serde::Deserialize;
 
+use crate::disk::{lack_of_space, taken};
 use crate::journal::{emptied, files_of, has_had_requests, keep_older_out, with_suffix, JournalError};
 
 /// What `cq verify` says of a file.
@@ -126,6 +127,15 @@ pub fn dump(program: &str, path: &Path, out: &mut impl Write) -> Result<()> {
     Ok(())
 }
 
+/// Copies a file of a journal.
+fn copy_file(program: &str, file: &Path, copy: &Path) -> Result<()> {
+    let copied = ask(program, "copy", &[file, copy], Stdio::piped()).map(drop);
+    copied.map_err(|error| {
+        let said = error.to_string();
+        anyhow!("{said}{}", lack_of_space(&said, copy, taken(file)))
+    })
+}
+
 /// Copies a journal. The file of the first program is copied last, and the copy counts as a journal from then on.
 pub fn back_up(program: &str, path: &Path, copy: &Path, out: &mut impl Write) -> Result<()> {
     let files = files_there(path)?;
@@ -138,11 +148,7 @@ pub fn back_up(program: &str, path: &Path, copy: &Path, out: &mut impl Write) ->
         ask(program, "verify", &[file], Stdio::piped())?;
     }
     let copies: Vec<_> = (1..=files.len()).map(|number| with_suffix(copy, &format!("cq{number}"))).collect();
-    let copied = files
-        .iter()
-        .zip(&copies)
-        .rev()
-        .try_for_each(|(file, copy)| ask(program, "copy", &[file, copy], Stdio::piped()).map(drop));
+    let copied = files.iter().zip(&copies).rev().try_for_each(|(file, copy)| copy_file(program, file, copy));
     let verified = copied.and_then(|()| verify_copy(program, path, copy, out));
     if verified.is_err() {
         // Of a copy that isn't whole nothing stays.
