@@ -18,6 +18,9 @@ const LINE_FEED: u8 = 2;
 /// What stands for a 1 behind an escape.
 const ONE: u8 = 4;
 
+/// To call a search takes longer than to look at fewer bytes than that.
+const SHORT: usize = 16;
+
 /// By how much the byte that stands for zeros is above their number.
 const ZEROS_ABOVE: u8 = 10;
 
@@ -84,10 +87,25 @@ fn unescaped_in_front(bytes: &[u8]) -> usize
     ensures unescaped { has_escape (take result bytes.now) ≡ false }
     ensures within { result ≤ length bytes.now }
 {
+    if bytes.len() < SHORT {
+        return unescaped_in_short(bytes);
+    }
     match memchr(ESCAPE, bytes) {
         Some(place) => place,
         None => bytes.len(),
     }
+}
+
+/// The same of few bytes, which are looked at one by one.
+fn unescaped_in_short(bytes: &[u8]) -> usize
+    ensures unescaped { has_escape (take result bytes.now) ≡ false }
+    ensures within { result ≤ length bytes.now }
+{
+    let mut place = 0;
+    while place < bytes.len() && bytes[place] != ESCAPE {
+        place += 1;
+    }
+    place
 }
 
 /// How many bytes these begin with that stand for themselves.
