@@ -241,9 +241,13 @@ def test_a_file_that_cannot_be_turned_stays_and_ends_the_start(tmp_path, small_d
     said = of_lines.refused()
     assert "JournalFailed" in said and f"{of_lines.journal}.cq" in said
     assert go_on([lines_of(file) for file in files_of(of_lines.journal)], before)
-    assert of_lines.names() == ["filler", *NAMES]
+    # Both files are turned at once, and the first one that can't be ends the start: of the other one a part may be there, which the
+    # next start takes away.
+    parts = {f"{name}.entries{part}" for name in NAMES for part in ("", ".part")}
+    assert {"filler", *NAMES} <= set(of_lines.names()) <= {"filler", *NAMES, *parts}
     filler.unlink()
     of_lines.start()
+    assert not parts & set(of_lines.names())
     of_lines.compare()
     assert of_lines.gateway.stop() == 0
 
