@@ -2,6 +2,7 @@
 //! again.
 
 use std::collections::{BTreeMap, HashMap, VecDeque};
+use std::sync::atomic::{AtomicU64, Ordering};
 use std::sync::{Arc, Mutex, MutexGuard, PoisonError, Weak};
 
 use super::ask::StoreName;
@@ -88,11 +89,15 @@ impl OfProgram {
 
 /// Names of queues and books, by the places of the programs. Those of parts aren't among them.
 #[derive(Debug, Default)]
-pub struct Names(Mutex<BTreeMap<usize, OfProgram>>);
+pub struct Names {
+    programs: Mutex<BTreeMap<usize, OfProgram>>,
+    /// How many are gone of all programs.
+    all_gone: AtomicU64,
+}
 
 impl Names {
     fn programs(&self) -> MutexGuard<'_, BTreeMap<usize, OfProgram>> {
-        self.0.lock().unwrap_or_else(PoisonError::into_inner)
+        self.programs.lock().unwrap_or_else(PoisonError::into_inner)
     }
 
     /// Takes up the names that a store has had: how often each was created, and when it went, if it isn't there. Of none of them
@@ -103,7 +108,7 @@ impl Names {
         let mut went: BTreeMap<StoreName, Moment> = BTreeMap::new();
         for (name, creations, gone) in names {
             own.names.insert(name, Name { creations, is_there: gone.is_none(), ..Name::default() });
-            own.gone += u64::from(gone.is_some());
+            self.add_gone(own, u64::from(gone.is_some()));
             let latest = went.entry(name.main().unwrap_or(name)).or_default();
             *latest = gone.unwrap_or(0).max(*latest);
         }
@@ -125,7 +130,10 @@ impl Names {
         let is_new = !own.names.contains_key(&name);
         let created = Name { creations: incarnation, is_there: true, in_use, waits: None };
         let before = own.names.insert(name, created).unwrap_or_default();
-        own.gone -= u64::from(!is_new && !before.is_there);
+        if !is_new && !before.is_there {
+            own.gone -= 1;
+            self.all_gone.fetch_sub(1, Ordering::Relaxed);
+        }
         !before.is_there && incarnation == before.creations + 1
     }
 
@@ -155,7 +163,7 @@ impl Names {
         // A name whose creation nobody saw was created once at least.
         known.creations = known.creations.max(1);
         known.is_there = false;
-        own.gone += 1;
+        self.add_gone(own, 1);
         own.wait(name.main().unwrap_or(name), moment);
     }
 
@@ -185,9 +193,14 @@ impl Names {
         self.programs().get(&place).map_or(0, |own| own.gone)
     }
 
-    /// How many are gone of all programs.
+    fn add_gone(&self, own: &mut OfProgram, count: u64) {
+        own.gone += count;
+        self.all_gone.fetch_add(count, Ordering::Relaxed);
+    }
+
+    /// How many are gone of all programs. O(1), since each send asks.
     pub fn all_gone(&self) -> u64 {
-        self.programs().values().map(|own| own.gone).sum()
+        self.all_gone.load(Ordering::Relaxed)
     }
 
     /// All that is known of them.
