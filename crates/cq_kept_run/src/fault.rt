@@ -28,7 +28,8 @@ pub enum JournalFault {
     /// The file is none.
     #[error("there is no journal in the file")]
     NotAJournal,
-    /// The file has a journal of something else: of a server's entries where lines are wanted, or of lines where entries are.
+    /// The file has a journal of something else: of a server's entries where lines are wanted, of lines where entries are, or of a
+    /// session on another number of servers.
     #[error("the journal has something else")]
     OtherJournal,
 }
@@ -186,6 +187,7 @@ impl From<StartFault> for KeptFault {
     fn from(fault: StartFault) -> KeptFault {
         match fault {
             StartFault::Open(fault) => KeptFault::from(fault),
+            StartFault::OtherSize => KeptFault::Journal(JournalFault::OtherJournal),
             StartFault::Read(fault) => KeptFault::from(fault),
             StartFault::Run(fault) => KeptFault::from(fault),
             StartFault::Write(fault) => KeptFault::from(fault),

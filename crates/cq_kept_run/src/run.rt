@@ -22,7 +22,8 @@ use std::io::{self, Read, Write};
 /// `{"clients":2,"kind":"ready","lines":7,"queriers":0}` says how many lines that were, and the highest numbers of clients in their
 /// requests and queries. After that the lines of the reader are kept, run and answered, up to its end or to a fault. With two syncs
 /// nothing is supposed of torn writes. With `tells_store` a session of one server is brought to rest, and lines such as
-/// `{"chunk":"0100..","kind":"store"}` come first, one for each chunk of its store.
+/// `{"chunk":"0100..","kind":"store"}` come first, one for each chunk of its store; of more servers nothing is told, and nothing kept.
+/// A journal of a session on another number of servers is another journal.
 pub fn run_kept<R: Read, W: Write>(
     rt: &HostRuntime,
     size: ChainSize,
@@ -85,7 +86,7 @@ fn run_on<D: Device, R: Read, W: Write>(
     requires { is_failed output.old ≡ false }
 {
     let mut session = start(alloc, size, device)?;
-    begin_telling(alloc, tells_store, &mut session, output)?;
+    begin_telling(alloc, tells_store && size.get() == 1, &mut session, output)?;
     run_session(&mut session, reader, output)
 }
 

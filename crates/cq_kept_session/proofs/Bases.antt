@@ -8,7 +8,7 @@ use Rattle.cq_wire.proofs.Fronts.{ok_is}
 use Rattle.cq_store_wire.specs.declared.build.State.{State}
 use Rattle.cq_store_wire.specs.Building.{fed, or_truncated, store_of, whole_of}
 use Rattle.cq_lines.specs.Lines.{has_line_feed}
-use Rattle.cq_kept_session.specs.Bases.{Stage, based, ended, header_of, lined, or_bad, read, whole, with_payload, with_store}
+use Rattle.cq_kept_session.specs.Bases.{Stage, based, ended, header_of, lined, or_bad, read, resumed, whole, with_payload, with_store}
 use Rattle.cq_kept_base.specs.Stuffed.{unstuffed}
 use Rattle.cq_kept_session.specs.declared.base.Header.{Header}
 use Rattle.cq_kept_session.proofs.Chunks.{neither}
@@ -38,9 +38,9 @@ with_header payload header state is = ap (λ (r : Result Header WireFault). r >>
 pub with_chunk : (payload : List ℕ) (header : Header) (state next : State) → fed payload state ≡ Ok next → with_payload payload (Some header) state ≡ Ok (based [] (Some header) next)
 with_chunk payload header state next is = ap (λ (r : Result State WireFault). r >>= λ s. Ok (based [] (Some header) s)) is
 
-stored : (header : Header) (store : Option StoreKept) (kept : StoreKept) → or_truncated store ≡ Ok kept → with_store header store ≡ lined (Some (header, kept)) []
+stored : (header : Header) (store : Option StoreKept) (kept : StoreKept) → or_truncated store ≡ Ok kept → with_store header store ≡ lined (resumed header kept) []
 stored header None kept is = absurd cc
-stored header (Some store) kept is = ap (λ (k : StoreKept). lined (Some (header, k)) []) (ok_is store kept is)
+stored header (Some store) kept is = ap (λ (k : StoreKept). lined (resumed header k) []) (ok_is store kept is)
 
-pub whole_is : (header : Header) (state : State) (kept : StoreKept) → store_of state ≡ Ok kept → whole (Some header) state ≡ lined (Some (header, kept)) []
+pub whole_is : (header : Header) (state : State) (kept : StoreKept) → store_of state ≡ Ok kept → whole (Some header) state ≡ lined (resumed header kept) []
 whole_is header state kept is = stored header (whole_of state) kept is

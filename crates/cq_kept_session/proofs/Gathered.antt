@@ -1,17 +1,17 @@
 -- What has been read of a journal's contents.
-use Rattle.std.proofs.Common.{◌≡◌, ℕ, ◌+◌, List, [], ◌∷◌, ◌++◌, Option, None, Some, Result, Ok, Err, refl, sym, ◌∙◌, ap, subst, arith, append_assoc, append-nil, length-append}
+use Rattle.std.proofs.Common.{◌≡◌, ℕ, ◌+◌, List, [], ◌++◌, Option, None, Some, Result, Ok, Err, refl, sym, ◌∙◌, ap, subst, length-append}
 use Rattle.std.specs.Prelude.{◌==◌, filter, length, IfOk}
 use Rattle.std.proofs.lemmas.List.Elements.{filter-append}
 use Rattle.cq_store.specs.Stands.{StoreKept}
 use Rattle.cq_records.specs.Frames.{joined}
 use Rattle.cq_records.proofs.Frames.{joined_append}
-use Rattle.cq_kept_session.specs.Bases.{Stage, bad, based, fresh, lined, read}
-use Rattle.cq_kept_session.specs.Contents.{IsOf, lines_in}
+use Rattle.cq_kept_session.specs.Bases.{Stage, fresh, read, several}
+use Rattle.cq_kept_session.specs.Contents.{IsOf, base_of, lines_in}
 use Rattle.cq_kept_session.specs.declared.base.BaseReader.{BaseReader}
 use Rattle.cq_kept_session.specs.declared.base.Header.{Header}
 use Rattle.cq_kept_session.specs.declared.contents.Progress.{Progress}
-use Rattle.cq_kept_session.specs.declared.contents.Progress.TheVariants.{Behind, Fresh, InBase}
-use Rattle.cq_kept_session.specs.within.Contents.{HasLines, progress_stage}
+use Rattle.cq_kept_session.specs.declared.contents.Progress.TheVariants.{Behind, Fresh, InBase, OfSeveral}
+use Rattle.cq_kept_session.specs.within.Contents.{HasLines, progress_stage, start_of}
 use Rattle.cq_kept_session.specs.within.Readers.{reader_stage}
 use Rattle.cq_kept_session.proofs.Stages.{read_both, read_lines}
 
@@ -34,7 +34,11 @@ from_base self next reader text more is got =
 
 pub from_lines : (self : Progress) (base : Option (Header × StoreKept)) (text : List ℕ) → self ≡ Behind base → ReadsOn self text (Behind base) text
 from_lines self base text is =
-    subst (λ p. ReadsOn p text (Behind base) text) (sym is) (λ lines any. (any, read_lines base lines text))
+    subst (λ p. ReadsOn p text (Behind base) text) (sym is) (λ lines any. (any, read_lines (start_of base) lines text))
+
+pub from_several : (self : Progress) (servers : ℕ) (text : List ℕ) → self ≡ OfSeveral servers → ReadsOn self text (OfSeveral servers) text
+from_several self servers text is =
+    subst (λ p. ReadsOn p text (OfSeveral servers) text) (sym is) (λ lines any. (any, read_lines (several servers) lines text))
 
 -- what was read is of the base, if there is one
 pub is_of_fresh : (self : Progress) (lines : List ℕ) → self ≡ Fresh → HasLines self lines → IsOf (progress_stage self lines) None lines
@@ -42,7 +46,11 @@ is_of_fresh self lines is has =
     subst (λ p. HasLines p lines → IsOf (progress_stage p lines) None lines) (sym is) (λ none. (refl, none)) has
 
 pub is_of_behind : (self : Progress) (base : Option (Header × StoreKept)) (lines : List ℕ) → self ≡ Behind base → IsOf (progress_stage self lines) base lines
-is_of_behind self base lines is = subst (λ p. IsOf (progress_stage p lines) base lines) (sym is) (refl, refl)
+is_of_behind self base lines is = subst (λ p. IsOf (progress_stage p lines) base lines) (sym is) (same base, refl)
+  where
+    same : (base : Option (Header × StoreKept)) → base_of (start_of base) ≡ base
+    same None = refl
+    same (Some base) = refl
 
 -- ---- records more
 

@@ -1,10 +1,13 @@
 mod Bases
+mod Beginnings
 mod Chunks
 mod Gathered
 mod Histories
 mod Mending
+mod Openings
 mod Pieces
 mod Readings
+mod Restored
 mod Rewritten
 mod Runs
 mod Stages

@@ -9,12 +9,12 @@ use Rattle.cq_lines.specs.Lines.{ended_part}
 use Rattle.cq_script.specs.Resumed.{HasRun}
 use Rattle.cq_script.specs.Sessions.{session_text}
 use Rattle.cq_kept_session.specs.declared.kept.KeptSession.{KeptSession}
-use Rattle.cq_kept_session.specs.Bases.{AreOf, fresh, is_at_lines, read}
+use Rattle.cq_kept_session.specs.Bases.{AreOf, fresh, is_of, read}
 use Rattle.cq_kept_session.specs.Kept.{IsKept, StandsFor, kept_bytes, kept_records, session_device, told_text}
 use Rattle.cq_kept_session.specs.Texts.{has_mark, is_ended}
 use Rattle.cq_kept_session.specs.within.Settled.{IsSettled}
 use Rattle.cq_kept_session.proofs.Chunks.{joined_more}
-use Rattle.cq_kept_session.proofs.Stages.{are_back, are_on, at_lines}
+use Rattle.cq_kept_session.proofs.Stages.{are_back, are_on, fits_on}
 
 -- The first one has run what it has, the second one has the chunk in its journal, too, and the third one has run it.
 module _ {D : Type 0} {g : Ghosts D} (first second third : KeptSession D g) (chunk : List ℕ) (unmarked : has_mark chunk ≡ false) (is_kept : IsKept first)
@@ -58,7 +58,7 @@ module _ {D : Type 0} {g : Ghosts D} (first second third : KeptSession D g) (chu
     ran_all : (IsTrue (g.is_honest (session_device second)) → (bytes : List ℕ) → StandsFor first bytes → HasRun second.size (bytes ++ chunk) third.session)
         → IsTrue (g.is_honest (session_device third)) → (all : List ℕ) → StandsFor third all → HasRun third.size all third.session
     ran_all ran honest all stands =
-        let back = are_back first.size (kept_bytes first) chunk all (is_kept.whole (honest_first honest)) unmarked (stood all stands) in
+        let back = are_back first.size (kept_bytes first) chunk all (is_kept.fits (honest_first honest)) unmarked (stood all stands) in
         subst (λ (bytes : List ℕ). HasRun third.size bytes third.session) (sym back.2)
         (subst (λ (n : ℕ). HasRun n (back.0 ++ chunk) third.session) (sym size_same) (ran (honest_on honest) back.0 back.1))
 
@@ -66,7 +66,7 @@ module _ {D : Type 0} {g : Ghosts D} (first second third : KeptSession D g) (chu
         → (second.ended ≡ is_ended (kept_bytes first) → third.ended ≡ is_ended (kept_bytes first ++ chunk)) → IsKept third
     kept_on journal ran ends = record {
       journal = subst IsJournal (sym journal_is) journal;
-      whole = λ honest. ap (λ (kept : List ℕ). is_at_lines (read fresh kept)) bytes_are ∙ at_lines (kept_bytes first) chunk (is_kept.whole (honest_first honest)) unmarked;
+      fits = λ honest. (λ i. is_of (all_size i) (read fresh (bytes_are i))) ∙ fits_on first.size (kept_bytes first) chunk (is_kept.fits (honest_first honest)) unmarked;
       run = ran_all ran;
       ended = λ honest. ends (ended_is ∙ is_kept.ended (honest_first honest)) ∙ ap is_ended (sym bytes_are);
     }

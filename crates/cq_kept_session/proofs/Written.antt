@@ -1,6 +1,6 @@
 -- A base as it is written.
 use Rattle.std.proofs.Common.{◌≡◌, ℕ, ◌-◌, ◌^◌, ◌<◌, List, [], ◌∷◌, ◌++◌, length, Option, Some, Ok, refl, sym, ◌∙◌, ap, append_assoc, append-nil, arith}
-use Rattle.std.specs.Prelude.{◌==◌, true, false, slice_index_or}
+use Rattle.std.specs.Prelude.{◌==◌, true, slice_index_or}
 use Rattle.std.proofs.Math.Seq.{get_or-append_seam}
 use Rattle.std.proofs.lemmas.List.{length-append}
 use Rattle.cq_records.specs.Frames.{joined}
@@ -9,7 +9,7 @@ use Rattle.cq_wire.specs.Layout.{number32, number64}
 use Rattle.cq_wire.proofs.PartLaws.{is_read32, is_read64}
 use Rattle.cq_store_wire.specs.declared.build.State.{State}
 use Rattle.cq_store_wire.specs.declared.build.State.TheVariants as states
-use Rattle.cq_kept_session.specs.Bases.{Stage, based, fresh, header_of, lined, read, with_payload}
+use Rattle.cq_kept_session.specs.Bases.{Stage, based, fresh, header_of, lined, read, resumed, with_payload}
 use Rattle.cq_kept_session.specs.Texts.{is_ended}
 use Rattle.cq_kept_session.specs.declared.base.Header.{Header}
 use Rattle.cq_kept_base.specs.Stuffing.{Stuffs}
@@ -31,7 +31,7 @@ piece_added records front first second third payload header state stage some is 
     ∙ piece_ended [] unit [] header state s.clean ∙ ended_is unit payload header state stage (some_unit first second payload s some) (unit_reads first second payload s) gives
 
 -- a line feed alone ends the base
-pub base_ended : (records : List (List ℕ)) (header : Header) (kept : StoreKept) → read fresh (joined records) ≡ based [] (Some header) (states.Whole kept) → read fresh (joined (records ++ (10 ∷ []) ∷ [])) ≡ lined (Some (header, kept)) []
+pub base_ended : (records : List (List ℕ)) (header : Header) (kept : StoreKept) → read fresh (joined records) ≡ based [] (Some header) (states.Whole kept) → read fresh (joined (records ++ (10 ∷ []) ∷ [])) ≡ lined (resumed header kept) []
 base_ended records header kept begun = ap (λ (l : List ℕ). read fresh l) (joined_more records (10 ∷ [])) ∙ read_both fresh (joined records) (10 ∷ []) ∙ ap (λ st. read st (10 ∷ [])) begun
 
 -- ---- headers

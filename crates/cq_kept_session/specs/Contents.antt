@@ -1,8 +1,8 @@
 -- What a journal has, as it is told of it.
-use Rattle.std.specs.Prelude.{◌≡◌, ℕ, ◌==◌, Bool, List, [], Option, None, filter, length, if◌then◌else◌}
+use Rattle.std.specs.Prelude.{◌≡◌, ℕ, ◌==◌, Bool, List, [], Option, None, Some, filter, length, if◌then◌else◌}
 use Rattle.cq_store.specs.Stands.{StoreKept}
 use Rattle.cq_records.specs.Frames.{joined}
-use Rattle.cq_kept_session.specs.Bases.{Stage, bad, based, fresh, lined, read}
+use Rattle.cq_kept_session.specs.Bases.{Stage, Start, alone, bad, based, fresh, lined, marked, read, resumed, several, sized}
 use Rattle.cq_kept_session.specs.declared.base.Header.{Header}
 use Rattle.cq_kept_session.specs.declared.contents.Contents.{Contents}
 
@@ -10,11 +10,19 @@ use Rattle.cq_kept_session.specs.declared.contents.Contents.{Contents}
 abbrev pub lines_in : List ℕ → ℕ
 lines_in bytes = length (filter (λ b. b == 10) bytes)
 
+-- the base with which lines begin, if it is one
+abbrev pub base_of : Start → Option (Header × StoreKept)
+base_of alone = None
+base_of (several servers) = None
+base_of (resumed header kept) = Some (header, kept)
+
 -- bytes that were read so far are of this base, or of none, and these bytes of lines behind it
 abbrev pub IsOf : Stage → Option (Header × StoreKept) → List ℕ → Type 0
 IsOf fresh base lines = (base ≡ None) × (lines ≡ [])
+IsOf marked base lines = ⊥
+IsOf (sized servers) base lines = ⊥
 IsOf (based piece header state) base lines = ⊥
-IsOf (lined is these) base lines = (is ≡ base) × (these ≡ lines)
+IsOf (lined start these) base lines = (base_of start ≡ base) × (these ≡ lines)
 IsOf bad base lines = ⊥
 
 -- A journal of so many regions has these records. They are of the base that is told, or of none, and of lines: so many have ended, and their

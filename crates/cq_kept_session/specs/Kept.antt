@@ -7,7 +7,7 @@ use Rattle.cq_journal.specs.Journal.{IsJournal, journal_device, journal_records}
 use Rattle.cq_lines.specs.Lines.{ended_part}
 use Rattle.cq_script.specs.Resumed.{HasRun, lines_ended}
 use Rattle.cq_script.specs.Sessions.{session_text}
-use Rattle.cq_kept_session.specs.Bases.{AreOf, fresh, is_at_lines, read}
+use Rattle.cq_kept_session.specs.Bases.{AreOf, fresh, is_of, read}
 use Rattle.cq_kept_session.specs.Texts.{is_ended}
 use Rattle.cq_kept_session.specs.declared.kept.KeptSession.{KeptSession}
 
@@ -47,9 +47,10 @@ module _ {D : Type 0} {g : Ghosts D} where
   missing_end k = if is_ended (kept_bytes k) then [] else 10 ∷ []
 
   -- All that it has run is in its journal, and all of that was run, whatever bytes it stands for. A journal has its records on the medium.
-  -- Its base, if there is one, is whole. It knows whether the last line has ended.
+  -- What the journal begins with is of a session on so many servers, and its base, if there is one, is whole. It knows whether the last line
+  -- has ended.
   pub record IsKept (k : KeptSession D g) : Type 0 where
     pub journal : IsJournal k.journal
-    pub whole : IsTrue (g.is_honest (session_device k)) → is_at_lines (read fresh (kept_bytes k)) ≡ true
+    pub fits : IsTrue (g.is_honest (session_device k)) → is_of k.size (read fresh (kept_bytes k)) ≡ true
     pub run : IsTrue (g.is_honest (session_device k)) → (bytes : List ℕ) → StandsFor k bytes → HasRun k.size bytes k.session
     pub ended : IsTrue (g.is_honest (session_device k)) → k.ended ≡ is_ended (kept_bytes k)

@@ -3,8 +3,8 @@ ghost use Rattle.std.specs.Prelude.{◌≡◌, [], None, Some, IfOk, MatchOption
 ghost use Rattle.std.specs.Option.{option_map};
 ghost use Rattle.cq_store_wire.specs.declared.build.State.TheVariants as states;
 ghost use Rattle.cq_wire.specs.Reading.{Gives};
-ghost use Rattle.cq_kept_session.specs.Bases.{based, ended, header_of, lined, read, whole};
-ghost use Rattle.cq_kept_session.specs.within.Readers.{is_base, reader_stage};
+ghost use Rattle.cq_kept_session.specs.Bases.{based, ended, header_of, lined, read, resumed, whole};
+ghost use Rattle.cq_kept_session.specs.within.Readers.{is_base, is_fresh, reader_stage};
 
 use crate::Highest;
 use cq_kept_base::unstuffed;
@@ -120,7 +120,7 @@ impl BaseReader {
 
     /// What a base that has ended stands for.
     pub(crate) fn whole(self) -> Result<(Header, Store), ReadFault>
-        ensures { IfOk result (λ base. whole self.header self.store ≡ lined (Some (base.0, base.1)) []) }
+        ensures { IfOk result (λ base. whole self.header self.store ≡ lined (resumed base.0 base.1) []) }
     {
         let BaseReader { header, store, .. } = self;
         match header {
@@ -140,7 +140,7 @@ pub(crate) enum Reading {
     Fresh,
     /// In a base.
     Base(BaseReader),
-    /// Behind the base, if there is one.
+    /// In the lines, behind a base or not.
     Lines,
 }
 
@@ -152,6 +152,16 @@ impl Reading {
         match self {
             Reading::Base(_) => true,
             Reading::Fresh | Reading::Lines => false,
+        }
+    }
+
+    /// Whether no byte has come.
+    pub(crate) fn is_fresh(&self) -> bool
+        ensures { result ≡ is_fresh self.now }
+    {
+        match self {
+            Reading::Fresh => true,
+            Reading::Base(_) | Reading::Lines => false,
         }
     }
 }

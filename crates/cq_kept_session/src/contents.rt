@@ -4,14 +4,14 @@ ghost use Rattle.cq_disk.specs.declared.device.Device.{Ghosts};
 ghost use Rattle.cq_journal.specs.Journal.{HasRegions, StaysJournal, journal_device, journal_records, journal_regions};
 ghost use Rattle.cq_journal.specs.Rests.{Rests};
 ghost use Rattle.cq_records.specs.Frames.{joined};
-ghost use Rattle.cq_kept_session.specs.Bases.{fresh, read};
+ghost use Rattle.cq_kept_session.specs.Bases.{fresh, marked, read};
 ghost use Rattle.cq_kept_session.specs.Contents.{Holds, IsOf, lines_in};
 ghost use Rattle.cq_kept_session.specs.within.Contents.{HasLines, IsSoFar, progress_stage};
 ghost use Rattle.cq_kept_session.specs.within.Readers.{reader_stage};
 
 use crate::StartFault;
 use crate::base::{BaseReader, Header};
-use crate::text::MARK;
+use crate::text::{MARK, SIZE_MARK, size_in};
 use cq_base::NoMemory;
 use cq_disk::Device;
 use cq_journal::{Journal, OpenFault};
@@ -45,6 +45,8 @@ pub(crate) enum Progress {
     InBase(BaseReader),
     /// Behind the base, if there is one.
     Behind(Option<(Header, Store)>),
+    /// In the lines of a session on so many servers.
+    OfSeveral(u8),
 }
 
 /// The sum of two numbers. A fault: no bytes of so many regions can be told apart.
@@ -74,6 +76,7 @@ impl Progress {
             Progress::Fresh => begin(alloc, text),
             Progress::InBase(reader) => read_base(reader, text),
             Progress::Behind(base) => Ok((Progress::Behind(base), text)),
+            Progress::OfSeveral(servers) => Ok((Progress::OfSeveral(servers), text)),
         }
     }
 
@@ -85,6 +88,7 @@ impl Progress {
             Progress::Fresh => Ok(None),
             Progress::InBase(_) => Err(StartFault::Open(OpenFault::Damaged)),
             Progress::Behind(base) => Ok(base),
+            Progress::OfSeveral(_) => Ok(None),
         }
     }
 }
@@ -99,7 +103,20 @@ fn begin(alloc: Global, text: &[u8]) -> Result<(Progress, &[u8]), StartFault>
     if *first == MARK {
         return read_base(BaseReader::new(alloc), rest);
     }
+    if *first == SIZE_MARK {
+        return read_size(rest);
+    }
     Ok((Progress::Behind(None), text))
+}
+
+/// Reads of how many servers a session is, and the lines behind that.
+fn read_size(bytes: &[u8]) -> Result<(Progress, &[u8]), StartFault>
+    ensures { IfOk result (λ next. HasLines next.0 next.1.now × (read marked bytes.now ≡ progress_stage next.0 next.1.now)) }
+{
+    match size_in(bytes) {
+        Some((servers, lines)) => Ok((Progress::OfSeveral(servers), lines)),
+        None => Err(StartFault::Open(OpenFault::Damaged)),
+    }
 }
 
 /// Reads on in a base, and behind it where it has ended.

@@ -17,6 +17,9 @@ pub enum StartFault {
     /// The journal wasn't opened.
     #[error("{0}")]
     Open(OpenFault),
+    /// It is of a session on another number of servers.
+    #[error("the journal is of a session on another number of servers")]
+    OtherSize,
     /// Its lines weren't read.
     #[error("{0}")]
     Read(RegionFault),

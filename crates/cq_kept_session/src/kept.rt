@@ -46,7 +46,7 @@ impl<D: Device> KeptSession<D> {
     ghost use Rattle.cq_kept_session.specs.within.Settled.{IsSettled};
 
     /// Takes what one read brought: keeps it, runs the lines that end in it, writes what comes of them, and flushes it. Nothing is
-    /// written before all that it rests on is on the medium. A byte of 0, 1 or 2 is kept and run as a byte of 3: a line with any of
+    /// written before all that it rests on is on the medium. A byte of 0, 1, 2 or 3 is kept and run as a byte of 4: a line with any of
     /// them is a bad one. `NotKept(Full)`: there is no space, and the session goes on without the chunk. After any other fault it is to be
     /// opened anew. It takes memory for two copies of the chunk, and what its lines take.
     pub fn take<W: Sink>(&mut self, chunk: &[u8], writer: &mut W) -> Result<(), TakeFault>
@@ -164,6 +164,7 @@ impl<D: Device> KeptSession<D> {
 
         ensures same { (self.new.session ≡ self.old.session) × (session_size self.new ≡ session_size self.old) × (self.new.ended ≡ self.old.ended) }
         ensures journal { OnOk result (IsJournal (session_journal self.new)) }
+        ensures lengths { OnOk result ((journal_half (session_journal self.new) ≡ journal_half (session_journal self.old)) × (region_len (session_journal self.new) ≡ region_len (session_journal self.old))) }
         ensures records { OnOk result (kept_records self.new ≡ kept_records self.old ++ text.now ∷ []) }
         ensures tries { Tries (adds (text.now ∷ [])) (session_journal self.old) (session_journal self.new) }
         ensures full { IsErrOf result Full → IsJournal (session_journal self.new) × (kept_records self.new ≡ kept_records self.old) }

@@ -13,7 +13,7 @@ ghost use Rattle.cq_store_wire.specs.Order.{parts_from};
 ghost use Rattle.cq_store_wire.specs.declared.build.State.{State};
 ghost use Rattle.cq_store_wire.specs.declared.build.State.TheVariants as states;
 ghost use Rattle.cq_store_wire.specs.declared.writer.Place.TheVariants as places;
-ghost use Rattle.cq_kept_session.specs.Bases.{AreOf, Stage, based, fresh, header_of, lined, read, with_payload};
+ghost use Rattle.cq_kept_session.specs.Bases.{AreOf, Stage, based, fresh, header_of, lined, read, resumed, with_payload};
 ghost use Rattle.cq_kept_session.specs.Served.{Serves};
 ghost use Rattle.cq_kept_session.specs.Texts.{is_ended};
 ghost use Rattle.cq_kept_session.specs.declared.base.Header.{Header};
@@ -109,7 +109,7 @@ fn add_all<D: Device>(
     ensures journal { OnOk result (IsJournal journal.new) }
     ensures rests { Rests journal.old journal.new }
     ensures base { OnOk result (IsBase journal.new base.new) }
-    ensures stands { (value : Header) → header_of header.now ≡ Ok value → OnOk result (read fresh (joined (base_records journal.new base.new)) ≡ lined (Some (value, store.now)) []) }
+    ensures stands { (value : Header) → header_of header.now ≡ Ok value → OnOk result (read fresh (joined (base_records journal.new base.new)) ≡ lined (resumed value store.now) []) }
     ensures ended { OnOk result (is_ended (joined (base_records journal.new base.new)) ≡ true) }
     ensures full { IsErrOf result Full → IsJournal journal.new }
 {
@@ -130,7 +130,7 @@ fn write_base<D: Device>(
     ensures journal { OnOk result (IsJournal journal.new) }
     ensures rests { Rests journal.old journal.new }
     ensures base { IfOk result (λ base. IsBase journal.new base) }
-    ensures stands { IfOk result (λ base. read fresh (joined (base_records journal.new base)) ≡ lined (Some (header.now, store.now)) []) }
+    ensures stands { IfOk result (λ base. read fresh (joined (base_records journal.new base)) ≡ lined (resumed header.now store.now) []) }
     ensures ended { IfOk result (λ base. is_ended (joined (base_records journal.new base)) ≡ true) }
     ensures full { IsErrOf result Full → IsJournal journal.new }
 {
@@ -153,11 +153,11 @@ fn replace_records<D: Device>(
     requires { IsJournal journal.old }
 
     ensures journal { OnOk result (IsJournal journal.new) }
-    ensures stands { OnOk result (read fresh (joined (journal_records journal.new)) ≡ lined (Some (header.now, store.now)) []) }
+    ensures stands { OnOk result (read fresh (joined (journal_records journal.new)) ≡ lined (resumed header.now store.now) []) }
     ensures ended { OnOk result (is_ended (joined (journal_records journal.new)) ≡ true) }
     ensures honest { IsTrue (D.is_honest (journal_device journal.new)) → IsTrue (D.is_honest (journal_device journal.old)) }
     ensures tries { (base : List (List ℕ)) × Tries (replaces base) journal.old journal.new
-        × ((base ≡ journal_records journal.old) ⊎ (read fresh (joined base) ≡ lined (Some (header.now, store.now)) [])) }
+        × ((base ≡ journal_records journal.old) ⊎ (read fresh (joined base) ≡ lined (resumed header.now store.now) [])) }
     ensures full { IsErrOf result Full → IsJournal journal.new × (journal_records journal.new ≡ journal_records journal.old) }
 {
     let base = write_base(journal, alloc, header, store)?;
@@ -196,6 +196,9 @@ impl<D: Device> KeptSession<D> {
         ensures full { IsErrOf result Full → IsKept self.new × (kept_records self.new ≡ kept_records self.old) }
     {
         if !self.ended {
+            return Ok(false);
+        }
+        if self.size.get() != 1 {
             return Ok(false);
         }
         let Some(store) = self.session.store_at_rest() else {

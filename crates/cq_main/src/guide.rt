@@ -103,6 +103,7 @@ Exit statuses:
      was too long for a frame: 75 Unanswered
   4  the journal of a session or a server: 66 JournalFailed, as where a write or a sync of it failed,
      or where a copy is there already, 67 JournalDamaged, 68 JournalBusy, as another one has it, 69
-     NotAJournal, or 79 OtherJournal, as one of a server where one of a session is wanted
+     NotAJournal, or 79 OtherJournal, as one of a server where one of a session is wanted, or one of
+     a session on another number of servers
   5  a server that was to begin with a store was told none: 78 NotLoaded
 A fault is told by one line on standard error, such as "cq: 61 BadLine line 3"."#;

@@ -1,6 +1,6 @@
 -- Behind a base that has ended lines begin.
-use Rattle.std.proofs.Common.{◌≡◌, ℕ, List, [], Some, ◌∙◌, ap}
-use Rattle.cq_kept_session.specs.Bases.{read, whole}
+use Rattle.std.proofs.Common.{◌≡◌, ℕ, List, [], ◌∙◌, ap}
+use Rattle.cq_kept_session.specs.Bases.{read, resumed, whole}
 use Rattle.cq_kept_session.specs.within.Readers.{reader_stage}
 use Rattle.cq_kept_session.proofs.Readings.{some_fed}
 use Rattle.cq_kept_session.proofs.Stages.{read_lines}
@@ -15,5 +15,5 @@ returns-else-header-gt-BYTES_LIMIT c =
     let Q : List ℕ → Type 0 = λ behind. read (reader_stage c.args.reader) c.args.bytes.now ≡ read (whole reader.header reader.store) behind in (
       tt,
       some_fed P Q (λ b. b.now) c.in_ok-reader.behind c.in-Some.lines c.in-Some.is c.in_ok-reader.ensures
-          ∙ ap (λ stage. read stage lines) base.ensures ∙ read_lines (Some (base.header, base.store)) [] lines,
+          ∙ ap (λ stage. read stage lines) base.ensures ∙ read_lines (resumed base.header base.store) [] lines,
     )

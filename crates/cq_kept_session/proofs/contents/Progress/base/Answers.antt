@@ -1,5 +1,5 @@
 -- What was read is of the base, or there is none.
-use Rattle.cq_kept_session.proofs.Gathered.{is_of_behind, is_of_fresh}
+use Rattle.cq_kept_session.proofs.Gathered.{is_of_fresh}
 use Rattle.cq_kept_session.proofs.contents.Progress.base.Goals as goal
 
 pub returns-in-Fresh : goal.returns-in-Fresh

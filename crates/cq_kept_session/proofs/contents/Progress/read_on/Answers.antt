@@ -1,5 +1,5 @@
 -- From where it was.
-use Rattle.cq_kept_session.proofs.Gathered.{from_base, from_fresh, from_lines}
+use Rattle.cq_kept_session.proofs.Gathered.{from_base, from_fresh, from_lines, from_several}
 use Rattle.cq_kept_session.proofs.Readings.{if_ok}
 use Rattle.cq_kept_session.proofs.contents.Progress.read_on.Goals as goal
 
@@ -11,3 +11,6 @@ returns-in-InBase c = if_ok c.read_base.result c.read_base.ensures (λ next got.
 
 pub returns-in-Behind : goal.returns-in-Behind
 returns-in-Behind c = from_lines c.args.self c.in-Behind.base c.args.text.now c.in-Behind.is
+
+pub returns-in-OfSeveral : goal.returns-in-OfSeveral
+returns-in-OfSeveral c = from_several c.args.self c.in-OfSeveral.servers c.args.text.now c.in-OfSeveral.is

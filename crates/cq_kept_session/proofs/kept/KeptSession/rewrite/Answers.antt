@@ -9,11 +9,17 @@ use Rattle.cq_records.specs.declared.fault.LogFault.TheVariants.{Full}
 use Rattle.cq_script.specs.Resumed.{IsBaseOf}
 use Rattle.cq_kept_session.specs.Bases.{AreOf}
 use Rattle.cq_kept_base.proofs.Rewriting.{rests_tries}
+use Rattle.cq_kept_session.proofs.Readings.{is_one}
 use Rattle.cq_kept_session.proofs.Rewritten.{kept_beside, kept_rewritten, means_base}
 use Rattle.cq_kept_session.proofs.kept.KeptSession.rewrite.Goals as goal
 
 pub returns-then-not-self-clause-tries : goal.returns-then-not-self-clause-tries
 returns-then-not-self-clause-tries g c =
+    let j = c.args.self.now.journal in
+    (journal_records j, rests_tries j j (rests_self j (λ f. g.met.D.Device.only_now j.root.log.device.device f) c.requires.journal.regions), λ honest bytes stands. stands)
+
+pub returns-then-get-ne1-clause-tries : goal.returns-then-get-ne1-clause-tries
+returns-then-get-ne1-clause-tries g c =
     let j = c.args.self.now.journal in
     (journal_records j, rests_tries j j (rests_self j (λ f. g.met.D.Device.only_now j.root.log.device.device f) c.requires.journal.regions), λ honest bytes stands. stands)
 
@@ -25,7 +31,7 @@ returns-in_default-clause-tries g c =
 pub returns-clause-kept : goal.returns-clause-kept
 returns-clause-kept g c =
     let r = c.in_ok-replace_records.ensures in
-    kept_rewritten c.args.self.now _ _ _ r.journal refl refl c.if-not-self.false r.ended r.stands
+    kept_rewritten c.args.self.now _ _ _ r.journal refl refl (is_one c.args.self.now.size c.get.result c.get.ensures.value c.if-get-ne1.false) c.if-not-self.false r.ended r.stands
     (λ size before is. c.in-Some.ensures.again size before (subst (λ (n : ℕ). IsBaseOf size c.in-Some.store.now n before) c.line_count.ensures is))
 
 pub returns-clause-stands : goal.returns-clause-stands

@@ -1,6 +1,6 @@
 -- One region more was read, and run.
 use Rattle.std.proofs.Common.{◌≡◌, ℕ, ◌+◌, ◌<◌, List, [], ◌++◌, length, take, refl, sym, ◌∙◌, ap, subst, arith}
-use Rattle.std.specs.Prelude.{IsTrue, get_or, true}
+use Rattle.std.specs.Prelude.{IsTrue, get_or, false}
 use Rattle.cq_records.specs.Frames.{joined}
 use Rattle.cq_records.proofs.Frames.{joined_append}
 use Rattle.cq_journal.specs.Journal.{IsJournal, journal_device, journal_places, journal_regions}
@@ -8,12 +8,11 @@ use Rattle.cq_journal.specs.Regions.{all_records}
 use Rattle.cq_journal.specs.Rests.{Rests}
 use Rattle.cq_journal.proofs.Copies.{rests_on, rests_self}
 use Rattle.cq_journal.proofs.RegionLists.{regions_have_all, regions_next, regions_whole}
-use Rattle.cq_script.specs.Resumed.{HasRun}
-use Rattle.cq_kept_session.specs.Bases.{AreOf, Means, fresh, is_at_lines, read}
+use Rattle.cq_kept_session.specs.Bases.{fresh, read}
 use Rattle.cq_kept_session.specs.Kept.{kept_bytes}
 use Rattle.cq_kept_session.specs.Texts.{is_ended}
-use Rattle.cq_kept_session.specs.within.Readers.{IsRead}
-use Rattle.cq_kept_session.proofs.Readings.{all_run}
+use Rattle.cq_kept_session.specs.within.Readers.{IsRead, is_base}
+use Rattle.cq_kept_session.proofs.Beginnings.{begun}
 use Rattle.cq_kept_session.proofs.Stages.{read_both}
 use Rattle.cq_kept_session.proofs.kept.KeptSession.run_kept.Goals as goal
 
@@ -56,16 +55,18 @@ loop-index-preserved g c =
       size = r.same.1 ∙ i.size;
       run = λ honest.
           let text_is : text ≡ joined (get_or regions at []) = c.deref.ensures.value ∙ was_read (honest_mid honest) in
+          let was = c.loop-index.self in
+          let ran : IsRead was.size (read fresh before) c.loop-index.reading was.session = subst (λ (n : ℕ). IsRead n (read fresh before) c.loop-index.reading was.session) (sym i.size) (i.run (e.rests.honest (honest_mid honest))) in
           subst (λ s. IsRead size s c.in_ok-reading.reading c.run_text.new.self.session)
           (sym (read_both fresh before text) ∙ ap (λ (l : List ℕ). read fresh l) (ap (λ (more : List ℕ). before ++ more) text_is ∙ next))
-          (c.in_ok-reading.ensures.run size (read fresh before) (i.run (e.rests.honest (honest_mid honest))));
+          (subst (λ (n : ℕ). IsRead n (read (read fresh before) text) c.in_ok-reading.reading c.run_text.new.self.session) i.size (c.in_ok-reading.ensures.run (read fresh before) ran));
       ended = λ honest.
           let text_is : c.deref-in-loop-index.result.now ≡ joined (get_or regions at []) = c.deref-in-loop-index.ensures.value ∙ was_read (honest_mid honest) in
           c.has_ended-self.ensures before (r.same.2 ∙ i.ended (e.rests.honest (honest_mid honest))) ∙ ap is_ended (ap (λ (more : List ℕ). before ++ more) text_is ∙ next);
     }
 
-pub returns-clause-kept : goal.returns-clause-kept
-returns-clause-kept g c =
+pub returns-clause-begun : goal.returns-clause-begun
+returns-clause-begun g c =
     let j = c.args.self.now.journal in
     let i = c.loop-index.invariant in
     let new = c.loop-index.self in
@@ -76,15 +77,8 @@ returns-clause-kept g c =
     let all : so_far ≡ kept_bytes new =
     ap (λ rs. joined (all_records rs)) (regions_whole regions c.loop-index.index (omega (arith, c.loop-index-test.false, c.region_count.ensures, ap length i.regions)))
     ∙ ap joined (regions_have_all j.len (journal_places j) bytes ∙ sym i.rests.records) in
-    let ran : IsTrue (g.D.Device.is_honest (journal_device new.journal)) → (is_at_lines (read fresh so_far) ≡ true) × ((text : List ℕ) → Means size (read fresh so_far) text → HasRun size text new.session) =
-    λ honest. all_run size (read fresh so_far) c.loop-index.reading new.session (sym c.is_base.ensures ∙ c.if-is_base.false) (i.run honest) in
-    record {
-      journal = i.journal;
-      whole = λ honest. ap (λ (l : List ℕ). is_at_lines (read fresh l)) (sym all) ∙ (ran honest).0;
-      run = λ honest text stands. subst (λ (n : ℕ). HasRun n text new.session) (sym i.size)
-          ((ran honest).1 text (subst (λ (l : List ℕ). Means size (read fresh l) text) (sym all) (subst (λ (n : ℕ). AreOf n (kept_bytes new) text) i.size stands)));
-      ended = λ honest. i.ended honest ∙ ap is_ended all;
-    }
+    let no_base : is_base c.loop-index.reading ≡ false = sym c.is_base.ensures ∙ c.if-is_base.false in
+    begun new c.loop-index.reading c.is_fresh.result c.is_fresh.ensures so_far size all i.journal i.size no_base i.run i.ended
 
 pub returns-in_err-reading-clause-rests : goal.returns-in_err-reading-clause-rests
 returns-in_err-reading-clause-rests g c =
