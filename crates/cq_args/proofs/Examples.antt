@@ -75,20 +75,20 @@ file_in id found = option_and_then (λ command. first_of id command.1) found
 
 files_found :
     map {B = Option Text × Option Text} (λ args. (file_in (codes "FILE") (subcommand_of program_app args), file_in (codes "TO") (subcommand_of program_app args))) (
-    (codes "verify" ∷ codes "a" ∷ []) ∷ (codes "copy" ∷ codes "a" ∷ codes "b" ∷ []) ∷ (codes "dump" ∷ codes "--" ∷ codes "-a" ∷ []) ∷ (codes "convert" ∷ codes "a" ∷ codes "b" ∷ []) ∷ (codes "replay" ∷ []) ∷ [] ∷ []
+    (codes "verify" ∷ codes "a" ∷ []) ∷ (codes "copy" ∷ codes "a" ∷ codes "b" ∷ []) ∷ (codes "dump" ∷ codes "--" ∷ codes "-a" ∷ []) ∷ (codes "replay" ∷ []) ∷ [] ∷ []
     )
-    ≡ (Some (codes "a"), None) ∷ (Some (codes "a"), Some (codes "b")) ∷ (Some (codes "-a"), None) ∷ (Some (codes "a"), Some (codes "b")) ∷ (None, None) ∷ (None, None) ∷ []
+    ≡ (Some (codes "a"), None) ∷ (Some (codes "a"), Some (codes "b")) ∷ (Some (codes "-a"), None) ∷ (None, None) ∷ (None, None) ∷ []
 unfolding clap_on_literals
 files_found = refl
 
 bad_file_args :
     map (λ args. all_are is_usage (fault_of program_app args)) (
     (codes "verify" ∷ []) ∷ (codes "copy" ∷ codes "a" ∷ []) ∷ (codes "dump" ∷ []) ∷ (codes "verify" ∷ codes "a" ∷ codes "b" ∷ []) ∷ (codes "copy" ∷ codes "a" ∷ codes "b" ∷ codes "c" ∷ [])
-    ∷ (codes "dump" ∷ codes "a" ∷ codes "--servers" ∷ codes "1" ∷ []) ∷ (codes "convert" ∷ codes "a" ∷ [])
+    ∷ (codes "dump" ∷ codes "a" ∷ codes "--servers" ∷ codes "1" ∷ [])
     ∷ (codes "verify" ∷ codes "a" ∷ []) ∷ (codes "copy" ∷ codes "a" ∷ codes "b" ∷ []) ∷ []
     )
     ≡ true ∷ true ∷ true ∷ true ∷ true
-    ∷ true ∷ true
+    ∷ true
     ∷ false ∷ false ∷ []
 unfolding clap_on_literals
 bad_file_args = refl

@@ -7,7 +7,7 @@ use Rattle.clap.specs.Simple.{on_top}
 use Rattle.clap.specs.declared.builder.action.ArgAction.TheVariants.{SetTrue}
 use Rattle.clap.specs.declared.builder.value_parser.ValueParser.TheVariants.{Signed, Unsigned}
 use Rattle.cq_args.specs.declared.invocation.Invocation.{Invocation}
-use Rattle.cq_args.specs.declared.invocation.Invocation.TheVariants.{Convert, Copy, Dump, Explain, First, Joining, Kept, KeptServer, Live, Loaded, Master, Replay, Session, Verify, Watch}
+use Rattle.cq_args.specs.declared.invocation.Invocation.TheVariants.{Copy, Dump, Explain, First, Joining, Kept, KeptServer, Live, Loaded, Master, Replay, Session, Verify, Watch}
 
 -- how many servers the chain begins with; no command about a journal's file has any, and none about a server that joins
 abbrev pub size_of : Invocation → ℕ
@@ -18,7 +18,6 @@ size_of (Live size turns) = size
 size_of (Verify path) = 0
 size_of (Copy path to) = 0
 size_of (Dump path) = 0
-size_of (Convert path to) = 0
 size_of (First id size) = size
 size_of (Joining id) = 0
 size_of Loaded = 0
@@ -36,7 +35,6 @@ name_of (Live size turns) = codes "live"
 name_of (Verify path) = codes "verify"
 name_of (Copy path to) = codes "copy"
 name_of (Dump path) = codes "dump"
-name_of (Convert path to) = codes "convert"
 name_of (First id size) = codes "server"
 name_of (Joining id) = codes "server"
 name_of Loaded = codes "server"
@@ -142,7 +140,7 @@ file_rule id = record (new_rule id) { required = true }
 abbrev pub file_app : Text → App
 file_app name = with_rule (new_app name) (file_rule (codes "FILE"))
 
--- a command of that name, `copy FILE TO` or `convert FILE TO`
+-- a command of that name, `copy FILE TO`
 abbrev pub files_app : Text → App
 files_app name = with_rule (file_app name) (file_rule (codes "TO"))
 
@@ -161,11 +159,10 @@ serving_app =
     (with_command bare_app (command_app (codes "replay") (codes "1"))) session_app)
     live_app
 
--- the program, with `verify`, `copy`, `dump` and `convert` too
+-- the program, with `verify`, `copy` and `dump` too
 abbrev pub journal_app : App
 journal_app =
-    with_command (with_command (with_command (with_command serving_app (file_app (codes "verify"))) (files_app (codes "copy"))) (file_app (codes "dump")))
-    (files_app (codes "convert"))
+    with_command (with_command (with_command serving_app (file_app (codes "verify"))) (files_app (codes "copy"))) (file_app (codes "dump"))
 
 -- `--id N`, a number from 1 to 2^32 - 1, which has to be there
 abbrev pub id_rule : Rule
@@ -302,7 +299,6 @@ abbrev pub IsOnFile : Invocation → Type 0
 IsOnFile (Verify path) = ⊤
 IsOnFile (Copy path to) = ⊤
 IsOnFile (Dump path) = ⊤
-IsOnFile (Convert path to) = ⊤
 IsOnFile _ = ⊥
 
 -- so many servers are asked for, if the command has any
@@ -310,7 +306,6 @@ abbrev pub HasServers : Option (Text × List Row) → Invocation → Type 0
 HasServers found (Verify path) = ⊤
 HasServers found (Copy path to) = ⊤
 HasServers found (Dump path) = ⊤
-HasServers found (Convert path to) = ⊤
 HasServers found (First id size) = ⊤
 HasServers found (Joining id) = ⊤
 HasServers found Loaded = ⊤
@@ -322,7 +317,6 @@ abbrev pub AsksFiles : List Row → Invocation → Type 0
 AsksFiles rows (Verify path) = first_of (codes "FILE") rows ≡ Some path.now
 AsksFiles rows (Copy path to) = (first_of (codes "FILE") rows ≡ Some path.now) × (first_of (codes "TO") rows ≡ Some to.now)
 AsksFiles rows (Dump path) = first_of (codes "FILE") rows ≡ Some path.now
-AsksFiles rows (Convert path to) = (first_of (codes "FILE") rows ≡ Some path.now) × (first_of (codes "TO") rows ≡ Some to.now)
 AsksFiles rows _ = ⊤
 
 -- and that is so of what a parse found
@@ -415,7 +409,6 @@ LacksJournalIn found (Kept size journal) = ⊥
 LacksJournalIn found (Verify path) = ⊥
 LacksJournalIn found (Copy path to) = ⊥
 LacksJournalIn found (Dump path) = ⊥
-LacksJournalIn found (Convert path to) = ⊥
 LacksJournalIn found (First id size) = ⊥
 LacksJournalIn found (Joining id) = ⊥
 LacksJournalIn found Loaded = ⊥

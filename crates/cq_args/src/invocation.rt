@@ -69,11 +69,6 @@ pub enum Invocation<'a> {
     Dump {
         path: &'a str,
     },
-    /// Another file with the journal of a server, made of that of a session in a file.
-    Convert {
-        path: &'a str,
-        to: &'a str,
-    },
     /// A process that keeps the server of that number, at most `size`, of a first chain of so many.
     First {
         id: ServerId,
@@ -118,8 +113,6 @@ const VERIFY: &str = "verify";
 const COPY: &str = "copy";
 
 const DUMP: &str = "dump";
-
-const CONVERT: &str = "convert";
 
 const SERVER: &str = "server";
 
@@ -553,16 +546,10 @@ fn journal_program<'a>(alloc: Global) -> Result<Command<'a>, AllocError>
         DUMP,
         "Writes the lines of a journal, and before them the store that stands for those that it hasn't any more",
     )?;
-    let convert = files_command(
-        alloc,
-        CONVERT,
-        "Makes the journal of a server of that of a session of one server, which doesn't run meanwhile",
-    )?;
     program
         .subcommand(verify)?
         .subcommand(copy)?
-        .subcommand(dump)?
-        .subcommand(convert)
+        .subcommand(dump)
 }
 
 /// The program's command line without those that explain lines, or show what they do.
@@ -679,10 +666,6 @@ fn file_word_in<'a>(name: &str, options: &ArgMatches<'a>) -> Option<Invocation<'
         }),
         DUMP => Some(Invocation::Dump {
             path: options.get_str(FILE)?,
-        }),
-        CONVERT => Some(Invocation::Convert {
-            path: options.get_str(FILE)?,
-            to: options.get_str(TO)?,
         }),
         _ => None,
     }
@@ -833,7 +816,7 @@ fn invocation_in<'a>(matches: &ArgMatches<'a>) -> Option<Invocation<'a>>
         → ReadsTurns (turns_text (subcommand_rows_of matches.now)) invocation → LacksJournalIn (subcommand_rows_of matches.now) invocation → result ≡ Some invocation }
 {
     match matches.subcommand() {
-        Some((name @ (VERIFY | COPY | DUMP | CONVERT), options)) => file_word_in(name, options),
+        Some((name @ (VERIFY | COPY | DUMP), options)) => file_word_in(name, options),
         Some((name @ (SERVER | MASTER), options)) => process_in(name, options),
         Some((name @ (EXPLAIN | WATCH), options)) => lines_in(name, options),
         _ => serving_in(matches),

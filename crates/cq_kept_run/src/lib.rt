@@ -4,7 +4,6 @@
 #![tactic(auto)]
 
 mod blank;
-mod converting;
 mod copying;
 mod dumping;
 mod entries;
@@ -18,7 +17,6 @@ mod source;
 mod store;
 mod verifying;
 
-pub use converting::convert;
 pub use copying::copy;
 pub use dumping::dump;
 pub use fault::{JournalFault, KeptFault, ServerFault};

@@ -3,7 +3,7 @@ use Rattle.std.proofs.Common.{ℕ, List, [], ◌∷◌, ◌++◌, Option, None, 
 use Rattle.std.specs.Prelude.{decimal}
 use Rattle.clap.specs.Words.{Row, Text}
 use Rattle.cq_args.specs.declared.invocation.Invocation.{Invocation}
-use Rattle.cq_args.specs.declared.invocation.Invocation.TheVariants.{Convert, Copy, Dump, Explain, First, Joining, Kept, KeptServer, Live, Loaded, Master, Replay, Session, Verify, Watch}
+use Rattle.cq_args.specs.declared.invocation.Invocation.TheVariants.{Copy, Dump, Explain, First, Joining, Kept, KeptServer, Live, Loaded, Master, Replay, Session, Verify, Watch}
 use Rattle.cq_args.specs.CommandLine.{IsAsked}
 use Rattle.cq_frame_loop.specs.declared.fault.LoopFault.{LoopFault}
 use Rattle.cq_main.specs.Invocations.{IsSound}
@@ -24,7 +24,6 @@ asked_sound found (Live size turns) h = tt
 asked_sound found (Verify path) h = tt
 asked_sound found (Copy path to) h = tt
 asked_sound found (Dump path) h = tt
-asked_sound found (Convert path to) h = tt
 asked_sound found (Joining id) h = tt
 asked_sound found Loaded h = tt
 asked_sound found (KeptServer path mebibytes no_create) h = tt

@@ -11,7 +11,7 @@ use Rattle.cq_processes.specs.Keeping.{KeepsMaster, KeepsServer}
 use Rattle.cq_script.specs.Replays.{Headlines, Replays}
 use Rattle.cq_script.specs.Sessions.{SessionHeadlines, Sessions}
 use Rattle.cq_args.specs.declared.invocation.Invocation.{Invocation}
-use Rattle.cq_args.specs.declared.invocation.Invocation.TheVariants.{Convert, Copy, Dump, Explain, First, Joining, Kept, KeptServer, Live, Loaded, Master, Replay, Session, Verify, Watch}
+use Rattle.cq_args.specs.declared.invocation.Invocation.TheVariants.{Copy, Dump, Explain, First, Joining, Kept, KeptServer, Live, Loaded, Master, Replay, Session, Verify, Watch}
 
 -- a first server is one of its chain
 abbrev pub IsSound : Invocation → Type 0
@@ -34,8 +34,6 @@ Runs (Verify path) status unread left reader_failed written output writer_failed
 Runs (Copy path to) status unread left reader_failed written output writer_failed writer_flushed failed old new =
     RunsKept status failed old new
 Runs (Dump path) status unread left reader_failed written output writer_failed writer_flushed failed old new =
-    RunsKept status failed old new
-Runs (Convert path to) status unread left reader_failed written output writer_failed writer_flushed failed old new =
     RunsKept status failed old new
 Runs (First id size) status unread left reader_failed written output writer_failed writer_flushed failed old new =
     RunsProcess (KeepsServer (first_member size id)) status unread left reader_failed written output writer_failed writer_flushed failed old new

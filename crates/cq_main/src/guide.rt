@@ -63,8 +63,6 @@ Commands, and when to use which:
            such as {"chunk":"0100..","kind":"store"}. A session may run on a file that is verified,
            copied or dumped: nothing is written to it. Of the file of a server the store of all its
            entries is told, and how many these are
-  convert  to make the file of a server of that of a session of one server, so that a server goes on
-           behind what the session did; TO is there once all of it is on the disk
   live     to see a chain at work: servers, a master and two clients run side by side, each on a thread
            of its own; once the clients have their answers, all that the servers and the master did is
            put into one order and checked. It tells how many sends were accepted, and that the audit
@@ -85,7 +83,6 @@ Examples:
   cq watch --servers 3
   cq session --journal queues.journal --journal-size 1024
   cq copy queues.journal monday.journal
-  cq convert queues.journal queue.journal
   cq live --servers 5 --turns 1000000 < LIVE_SCRIPT
   cq explain --servers 3 < SCRIPT
   cq server --id 1 --first 3

@@ -10,7 +10,7 @@ use crate::report::report;
 use cq_args::JournalOptions;
 use cq_base::ChainSize;
 use cq_kept_run::{
-    JournalFault, KeptFault, ServerFault, convert, copy, dump, run_kept, run_kept_server, verify,
+    JournalFault, KeptFault, ServerFault, copy, dump, run_kept, run_kept_server, verify,
 };
 use cq_script::Checked;
 use std::io::{Read, Write};
@@ -51,9 +51,6 @@ pub trait KeptSessions {
     /// Writes the lines of the journal in a file.
     fn dump<W: Write>(&self, path: &str, output: &mut Checked<W>) -> Result<(), KeptFault>
         requires { is_failed output.old ≡ false };
-
-    /// Makes another file with the journal of a server, of that of a session in a file.
-    fn convert(&self, path: &str, to: &str) -> Result<(), KeptFault>;
 }
 
 impl KeptSessions for HostRuntime {
@@ -97,10 +94,6 @@ impl KeptSessions for HostRuntime {
 
     fn dump<W: Write>(&self, path: &str, output: &mut Checked<W>) -> Result<(), KeptFault> {
         dump(self, path, output)
-    }
-
-    fn convert(&self, path: &str, to: &str) -> Result<(), KeptFault> {
-        convert(self, path, to)
     }
 }
 
@@ -202,18 +195,6 @@ pub fn run_dump<H: KeptSessions, W: Write, E: Write>(
     ensures { RunsKept result (is_failed errors.new) (E.contents (inner_of errors.old)) (E.contents (inner_of errors.new)) }
 {
     end_kept(&rt.dump(path, output), errors)
-}
-
-/// Makes the journal of a server of that of a session, or tells its fault, and gives the status with which the program ends.
-pub fn run_convert<H: KeptSessions, E: Write>(
-    rt: &H,
-    path: &str,
-    to: &str,
-    errors: &mut Checked<E>,
-) -> u8
-    ensures { RunsKept result (is_failed errors.new) (E.contents (inner_of errors.old)) (E.contents (inner_of errors.new)) }
-{
-    end_kept(&rt.convert(path, to), errors)
 }
 
 /// Tells the fault of a session with a journal, or of one that was read, if there is one.

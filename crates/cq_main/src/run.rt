@@ -17,9 +17,7 @@ ghost use Rattle.std.specs.declared.io.ErrorKind.TheVariants.{OutOfMemory as NoR
 
 use crate::explain::run_explain;
 use crate::guide::GUIDE;
-use crate::kept::{
-    KeptSessions, run_convert, run_copy, run_dump, run_journal, run_server, run_verify,
-};
+use crate::kept::{KeptSessions, run_copy, run_dump, run_journal, run_server, run_verify};
 use crate::live::run_live;
 use crate::process::{run_first, run_joining, run_loaded, run_master};
 use crate::report::report;
@@ -115,7 +113,6 @@ fn carry_out<H: Threads + Wait + Sync + KeptSessions, R: Read, W: Write, E: Writ
         Invocation::Verify { path } => run_verify(rt, path, output, errors),
         Invocation::Copy { path, to } => run_copy(rt, path, to, errors),
         Invocation::Dump { path } => run_dump(rt, path, output, errors),
-        Invocation::Convert { path, to } => run_convert(rt, path, to, errors),
         Invocation::First { id, size } => run_first(alloc, *id, *size, reader, output, errors),
         Invocation::Joining { id } => run_joining(alloc, *id, reader, output, errors),
         Invocation::Loaded => run_loaded(alloc, reader, output, errors),

@@ -1,17 +1,11 @@
 -- What a journal of entries has, and the lines that tell it.
-use Rattle.std.specs.Prelude.{◌≡◌, ℕ, List, [], ◌∷◌, ◌++◌, Option, None, Some, IsTrue, codes, decimal, length}
+use Rattle.std.specs.Prelude.{◌≡◌, ℕ, List, [], ◌∷◌, ◌++◌, Option, None, Some, codes, decimal, length}
 use Rattle.std.specs.Io.KnownBytes.{Appends}
-use Rattle.cq_base.specs.declared.ask.Entry.{Entry}
-use Rattle.cq_disk.specs.declared.device.Device.{Ghosts}
 use Rattle.cq_store.specs.Stands as stores
 use Rattle.cq_journal.specs.Regions.{all_records, kept, kept_regions}
 use Rattle.cq_kept_entries.specs.Contents.{Holds}
-use Rattle.cq_kept_entries.specs.Kept.{StandsFor}
 use Rattle.cq_kept_entries.specs.declared.contents.EntriesContents.{EntriesContents}
-use Rattle.cq_kept_entries.specs.declared.kept.KeptEntries.{KeptEntries}
-use Rattle.cq_kept_session.specs.declared.kept.KeptSession.{KeptSession}
 use Rattle.cq_kept_run.specs.declared.sizes.TheConstants.{HALF, REGION}
-use Rattle.cq_kept_run.specs.within.Runs.{IsStoreOf}
 use Rattle.cq_kept_run.specs.within.Told.{TellsStore}
 
 -- These bytes have a root that names such regions, in order, and what is told is of their records.
@@ -50,10 +44,3 @@ pub record DumpsEntries (told : EntriesContents) (before after : Option (List �
   pub stored : Option (List ℕ)
   pub store : TellsStoreOf told.store before stored
   pub count : Appends stored after (count_text (entry_count told.store))
-
--- A journal of entries was made of a session. By this store the session could be begun again; and the journal stands for whatever entries
--- the store stands for.
-pub record IsConverted {D E : Type 0} {g : Ghosts D} {h : Ghosts E} (session : KeptSession D g) (entries : KeptEntries E h) : Type 0 where
-  pub store : stores.StoreKept
-  pub is : IsStoreOf session store
-  pub stands : (all : List Entry) → stores.StandsFor store all → StandsFor entries all

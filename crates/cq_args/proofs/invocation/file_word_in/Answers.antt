@@ -26,13 +26,3 @@ returns-in_ok-get_str-in-copy-2 c = (
 pub returns-in_ok-get_str-in-dump : goal.returns-in_ok-get_str-in-dump
 returns-in_ok-get_str-in-dump c =
     (sym c.in-dump.is, tt, path_is (found_of c.args.options.now) (codes "FILE") c.get_str-in-dump.result _ c.get_str-in-dump.ensures c.in_ok-get_str-in-dump.was)
-
-pub returns-in_ok-get_str-in-convert-2 : goal.returns-in_ok-get_str-in-convert-2
-returns-in_ok-get_str-in-convert-2 c = (
-  sym c.in-convert.is,
-  tt,
-  (
-    path_is (found_of c.args.options.now) (codes "FILE") c.get_str-in-convert.result _ c.get_str-in-convert.ensures c.in_ok-get_str-in-convert.was,
-    path_is (found_of c.args.options.now) (codes "TO") c.get_str-in-convert-2.result _ c.get_str-in-convert-2.ensures c.in_ok-get_str-in-convert-2.was,
-  ),
-)

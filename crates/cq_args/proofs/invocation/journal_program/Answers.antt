@@ -9,7 +9,5 @@ returns c =
     ∙ ap₂ with_subcommand c.in_ok-program.ensures (ap (λ (a : App). a.top) c.in_ok-verify.ensures.app) in
     let with_copy = c.in_ok-subcommand-2.ensures.shape c.in_ok-copy.ensures.local
     ∙ ap₂ with_subcommand with_verify (ap (λ (a : App). a.top) c.in_ok-copy.ensures.app) in
-    let with_dump = c.in_ok-subcommand-3.ensures.shape c.in_ok-dump.ensures.local
-    ∙ ap₂ with_subcommand with_copy (ap (λ (a : App). a.top) c.in_ok-dump.ensures.app) in
-    IfOk-weaker c.subcommand-4.result _ _ (λ command adds. adds.shape c.in_ok-convert.ensures.local
-    ∙ ap₂ with_subcommand with_dump (ap (λ (a : App). a.top) c.in_ok-convert.ensures.app)) c.subcommand-4.ensures
+    IfOk-weaker c.subcommand-3.result _ _ (λ command adds. adds.shape c.in_ok-dump.ensures.local
+    ∙ ap₂ with_subcommand with_copy (ap (λ (a : App). a.top) c.in_ok-dump.ensures.app)) c.subcommand-3.ensures

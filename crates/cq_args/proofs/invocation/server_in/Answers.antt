@@ -4,7 +4,7 @@ use Rattle.std.specs.Prelude.{IfSome, option_map}
 use Rattle.clap.specs.Words.{Row, first_of, found_of, rows_of}
 use Rattle.clap.proofs.WalkLemmas.{first_value-rows}
 use Rattle.cq_args.specs.declared.invocation.Invocation.{Invocation}
-use Rattle.cq_args.specs.declared.invocation.Invocation.TheVariants.{Convert, Copy, Dump, Explain, First, Joining, Kept, KeptServer, Live, Loaded, Master, Replay, Session, Verify, Watch}
+use Rattle.cq_args.specs.declared.invocation.Invocation.TheVariants.{Copy, Dump, Explain, First, Joining, Kept, KeptServer, Live, Loaded, Master, Replay, Session, Verify, Watch}
 use Rattle.cq_args.specs.CommandLine.{AsksProcess, AsksServer, IsProcess, name_of, server_name}
 use Rattle.cq_args.proofs.Asked.{no_path}
 use Rattle.cq_args.proofs.invocation.server_in.Goals as goal
@@ -24,7 +24,6 @@ unkept rows (Live size turns) none asks = absurd asks
 unkept rows (Verify path) none asks = absurd asks
 unkept rows (Copy path to) none asks = absurd asks
 unkept rows (Dump path) none asks = absurd asks
-unkept rows (Convert path to) none asks = absurd asks
 unkept rows (Master size) none asks = absurd asks
 unkept rows (Explain size is_live) none asks = absurd asks
 unkept rows (Watch size) none asks = absurd asks

@@ -24,9 +24,6 @@ returns-in-Copy g c = rw c.in-Copy.is c.run_copy.ensures
 pub returns-in-Dump : goal.returns-in-Dump
 returns-in-Dump g c = rw c.in-Dump.is c.run_dump.ensures
 
-pub returns-in-Convert : goal.returns-in-Convert
-returns-in-Convert g c = rw c.in-Convert.is c.run_convert.ensures
-
 pub returns-in-First : goal.returns-in-First
 returns-in-First g c = rw c.in-First.is c.run_first.ensures
 
