@@ -122,6 +122,14 @@ impl Progress {
     }
 }
 
+/// So many bytes of entries, and those of a piece of this length behind what the pieces before it have made, with its line feed.
+fn bytes_with(behind: usize, progress: &Progress, piece: usize) -> usize {
+    match progress {
+        Progress::Listing(_) => behind.saturating_add(piece).saturating_add(1),
+        Progress::Fresh | Progress::Storing(_) => 0,
+    }
+}
+
 /// What is kept, as far as it was read.
 #[derive(Drop)]
 pub(crate) struct EntriesReader {
@@ -130,6 +138,8 @@ pub(crate) struct EntriesReader {
     pub(crate) piece: Vec<u8>,
     /// What the pieces before it have made.
     pub(crate) progress: Progress,
+    /// How many bytes of entries they have, behind the base.
+    pub(crate) behind: usize,
 }
 
 impl EntriesReader {
@@ -141,6 +151,7 @@ impl EntriesReader {
             alloc,
             piece: Vec::new(alloc),
             progress: Progress::Fresh,
+            behind: 0,
         }
     }
 
@@ -152,12 +163,15 @@ impl EntriesReader {
             alloc,
             piece,
             progress,
+            behind,
         } = self;
+        let behind = bytes_with(behind, &progress, piece.len());
         let progress = progress.with_piece(alloc, &piece)?;
         Ok(EntriesReader {
             alloc,
             piece: Vec::new(alloc),
             progress,
+            behind,
         })
     }
 

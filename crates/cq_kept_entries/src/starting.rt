@@ -19,7 +19,7 @@ use crate::reader::{EntriesReader, HEAD};
 use cq_base::ChainSize;
 use cq_disk::Device;
 use cq_journal::{Journal, NUMBER_LIMIT};
-use cq_kept_base::Schedule;
+use cq_kept_base::{Schedule, message_count};
 use cq_store::Store;
 use std::alloc::Global;
 
@@ -74,6 +74,10 @@ impl<D: Device> KeptEntries<D> {
         let journal = Journal::open(alloc, device, half, len)?;
         let mut kept = KeptEntries::begin(alloc, journal, len, behind);
         let store = kept.restore()?;
+        let used = kept.used();
+        kept.schedule.opened(used, message_count(&store));
+        // What is behind the base counts as a record: once something finds no room, another base is tried.
+        kept.schedule.count(0);
         Ok((kept, store))
     }
 
@@ -106,9 +110,9 @@ impl<D: Device> KeptEntries<D> {
             text.clear();
             self.journal.read_region(self.alloc, index, &mut text)?;
             reader = reader.feed(&text)?;
-            self.schedule.count(text.len());
             index += 1;
         }
+        self.schedule.count(reader.behind);
         Ok(reader)
     }
 

@@ -218,6 +218,23 @@ fn a_base_stands_for_entries(rt: HostRuntime) -> Result<(), Fail> {
     Ok(())
 }
 
+/// Behind an opening a base counts as one, and not as entries behind it: no other one is due.
+#[test]
+fn an_opening_makes_no_base_due(rt: HostRuntime) -> Result<(), Fail> {
+    let alloc = rt.alloc();
+    let whole = 2 * HALF + 20 * LEN;
+    let device = Memory::new(alloc, vec![in alloc; 0u8; whole]?, TornWrites::OldOrNew);
+    let mut kept = KeptEntries::create(alloc, device, HALF, LEN)?;
+    kept.rewrite(&store_of(alloc, 60)?)?;
+    keep(alloc, &mut kept, 61, 62)?;
+    let bytes = kept.into_journal().into_device().bytes().to_vec(alloc)?;
+
+    let (mut again, store) = open(alloc, bytes)?;
+    assert_eq!(rt; store.count(), 62);
+    assert_eq!(rt; again.rewrite_if_due(&store, 0)?, false);
+    Ok(())
+}
+
 /// Where there is no space, nothing changes, and the entries that were added stay.
 #[test]
 fn a_batch_needs_space(rt: HostRuntime) -> Result<(), Fail> {

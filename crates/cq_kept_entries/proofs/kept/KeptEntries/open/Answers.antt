@@ -54,3 +54,11 @@ returns-clause-any_moment g c = λ honest all b.
     (subst (λ it. LeavesOnly d.moment d.left_since device (journal_device it) P) (sym begun_is) opened)
     (weakened d.moment d.left_since (journal_device begun) (journal_device new) _ P (c.in_ok-store.ensures.any_moment honest)
     (λ f either. inr (either_stands half len (journal_half begun) (region_len begun) b.records (journal_records begun) all f (ap journal_half begun_is ∙ o.lengths.0) (ap region_len begun_is ∙ o.lengths.1) found b.are either)))
+
+pub used-used-requires : goal.used-used-requires
+used-used-requires g c = c.in_ok-store.ensures.kept.journal
+
+pub returns-clause-kept : goal.returns-clause-kept
+returns-clause-kept g c =
+    let k = c.in_ok-store.ensures.kept in
+    record { journal = k.journal; listing = k.listing; added = k.added; are = k.are }
