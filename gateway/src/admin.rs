@@ -2,7 +2,7 @@
 
 use std::convert::Infallible;
 use std::future::Future;
-use std::sync::atomic::{AtomicU64, AtomicU8, Ordering};
+use std::sync::atomic::{AtomicU8, Ordering};
 use std::sync::{Arc, OnceLock};
 use std::time::Duration;
 
@@ -28,8 +28,6 @@ const LONGEST_LOOK: Duration = Duration::from_secs(2);
 #[derive(Default)]
 pub struct Health {
     phase: AtomicU8,
-    /// Records of the journal that were replayed.
-    pub replayed: Arc<AtomicU64>,
 }
 
 /// Between two looks for a connection where accepting them failed.
@@ -55,14 +53,11 @@ impl Health {
     }
 
     /// A word for probes, and the status: 200 while it serves, else 503.
-    fn status(&self) -> (StatusCode, String) {
+    fn status(&self) -> (StatusCode, &'static str) {
         match self.phase.load(Ordering::Relaxed) {
-            STARTING => {
-                let replayed = self.replayed.load(Ordering::Relaxed);
-                (StatusCode::SERVICE_UNAVAILABLE, format!("starting: {replayed} records replayed\n"))
-            }
-            SERVING => (StatusCode::OK, "serving\n".into()),
-            _ => (StatusCode::SERVICE_UNAVAILABLE, "ending\n".into()),
+            STARTING => (StatusCode::SERVICE_UNAVAILABLE, "starting\n"),
+            SERVING => (StatusCode::OK, "serving\n"),
+            _ => (StatusCode::SERVICE_UNAVAILABLE, "ending\n"),
         }
     }
 }
@@ -75,7 +70,7 @@ pub struct Admin {
     pub peeks: Option<Peeks>,
     /// By which names bodies of messages may be asked for. Health and figures are told by any name.
     pub hosts: Hosts,
-    /// There once the journal is replayed.
+    /// There once the journal is read.
     pub store: OnceLock<Store>,
 }
 
@@ -150,7 +145,7 @@ impl Admin {
                 (StatusCode::OK, _) if !self.is_answering().await => {
                     text(StatusCode::SERVICE_UNAVAILABLE, "waiting: cq doesn't answer\n".into())
                 }
-                (status, word) => text(status, word),
+                (status, word) => text(status, word.into()),
             },
             "/metrics" => self.answer_metrics().await,
             _ => text(StatusCode::NOT_FOUND, "There are /health and /metrics here.\n".into()),
@@ -224,10 +219,9 @@ mod tests {
     #[test]
     fn health_is_good_while_it_serves() {
         let health = Health::default();
-        health.replayed.store(12, Ordering::Relaxed);
-        assert_eq!(health.status(), (StatusCode::SERVICE_UNAVAILABLE, "starting: 12 records replayed\n".into()));
+        assert_eq!(health.status(), (StatusCode::SERVICE_UNAVAILABLE, "starting\n"));
         health.serves();
-        assert_eq!(health.status(), (StatusCode::OK, "serving\n".into()));
+        assert_eq!(health.status(), (StatusCode::OK, "serving\n"));
         health.ends();
         assert_eq!(health.status().0, StatusCode::SERVICE_UNAVAILABLE);
     }

@@ -29,7 +29,7 @@ const AT_ONCE: usize = 64;
 /// be done now, since a journal is full, is done later.
 pub async fn prepare(store: &Store) {
     for place in store.places() {
-        match bring_up_to_date(store, place, false).await {
+        match bring_up_to_date(store, place).await {
             Err(error) if error != SqsError::store_is_gone() => {
                 tracing::warn!("the book is brought up to date later: {error}");
             }
@@ -60,7 +60,7 @@ async fn keep_one(store: Store, place: usize) {
         if !is_due && store.queues().left_over().of(place).is_empty() {
             continue;
         }
-        match bring_up_to_date(&store, place, false).await {
+        match bring_up_to_date(&store, place).await {
             Ok(()) => (is_due, rest) = (false, PAUSE),
             Err(error) => {
                 rest = LONGEST_REST.min(2 * rest);
@@ -104,25 +104,12 @@ fn of_place(store: &Store, place: usize) -> impl Iterator<Item = Arc<Queue>> + '
     store.queues().all().into_iter().filter(move |queue| store.place_of(&queue.name) == place)
 }
 
-/// Has each program have a book that says which one it is. It may say nothing else yet.
-pub async fn begin_all(store: &Store) -> Result<(), SqsError> {
-    for place in store.places() {
-        if store.queues().books().current(place).is_none() {
-            begin(store, place, false).await?;
-        }
-        let program = Entry::Program(program_entry(store, place));
-        store.perform_nameless(place, vec![Operation::Say(program)]).await?;
-    }
-    Ok(())
-}
-
-/// Begins a book, behind which nothing is said in an earlier one that isn't asked by then. `again`: its name may be that of one that
-/// is gone.
-async fn begin(store: &Store, place: usize, again: bool) -> Result<(), SqsError> {
+/// Begins a book, behind which nothing is said in an earlier one that isn't asked by then.
+async fn begin(store: &Store, place: usize) -> Result<(), SqsError> {
     if let Some(order) = store.queues().books().order_to_say(place) {
         store.perform_nameless(place, vec![Operation::Say(Entry::Book(order))]).await?;
     }
-    let name = store.next_book(place, again);
+    let name = store.next_book(place);
     let begun = store.perform_nameless(place, vec![Ask::Create { store: name, visibility: 0, bytes: 0 }.into()]).await;
     if begun.is_err() {
         store.queues().names().give_back(place, name, store.clock().now());
@@ -130,28 +117,14 @@ async fn begin(store: &Store, place: usize, again: bool) -> Result<(), SqsError>
     begun
 }
 
-/// Has a fresh book for each program, with all that counts. Refuses what no book takes.
-pub async fn begin_all_anew(store: &Store) -> Result<(), SqsError> {
-    for place in store.places() {
-        bring_up_to_date(store, place, true).await?;
-        let Some(current) = store.queues().books().current(place) else { continue };
-        if let Some(queue) = of_place(store, place).find(|queue| !queue.state().unsaid_in(current).is_empty()) {
-            let message = format!("The attributes and tags of {} are too long.", queue.name);
-            return Err(SqsError::InvalidParameterValue(message));
-        }
-    }
-    Ok(())
-}
-
-/// `begins`: a fresh one is begun, whatever it is worth.
-async fn bring_up_to_date(store: &Store, place: usize, begins: bool) -> Result<(), SqsError> {
+async fn bring_up_to_date(store: &Store, place: usize) -> Result<(), SqsError> {
     for name in store.queues().left_over().of(place) {
         remove_left_over(store, place, name).await?;
     }
     let books = store.queues().books();
     let is_first = books.current(place).is_none();
-    if is_first || begins || is_worth_beginning_anew(store, place) {
-        begin(store, place, !begins).await?;
+    if is_first || is_worth_beginning_anew(store, place) {
+        begin(store, place).await?;
     }
     // From now on nothing is said in an earlier one.
     if !store.wait_for(place).await {

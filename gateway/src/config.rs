@@ -627,7 +627,7 @@ mod tests {
         let settings = settings(options.or(file)).unwrap();
         assert_eq!((settings.host.as_str(), settings.port, settings.open), ("::1", 2, true));
         assert_eq!(
-            (settings.memory, settings.journal.unwrap().fresh(0, 0).making),
+            (settings.memory, settings.journal.unwrap().fresh(0).making),
             (Some(1 << 20), Making::OfSize(Some(96)))
         );
         assert_eq!(settings.admin, Some("9325".parse().unwrap()));
@@ -711,7 +711,7 @@ mod tests {
         let (journal, shards) = (Some(PathBuf::from("a")), Some(2));
         let small = Options { journal, shards, journal_size: Some(Size(191 << 20)), ..Options::default() };
         let kept = Options { journal_size: Some(Size(194 << 20)), ..small.clone() };
-        assert_eq!(settings(kept).unwrap().journal.unwrap().fresh(1, 0).making, Making::OfSize(Some(97)));
+        assert_eq!(settings(kept).unwrap().journal.unwrap().fresh(1).making, Making::OfSize(Some(97)));
         for bad in [alone, none, size, small, many, little, peek] {
             assert!(settings(bad).unwrap_err().is::<Misuse>());
         }

@@ -1,4 +1,4 @@
-//! What keeps the store: the process `cq server`, or a node. The lines of an older journal are put to `cq session`.
+//! What keeps the store: the process `cq server`, or a node.
 
 use std::ffi::OsString;
 use std::fs::OpenOptions;
@@ -29,8 +29,6 @@ pub enum CqError {
     NotCq(String),
     #[error("cq is gone: {0}")]
     Gone(String),
-    #[error("cq can't turn it into a journal of this version: {0}")]
-    NotConverted(String),
     #[error("it is missing, and none is made in its place")]
     FileMissing,
     #[error("it has nothing but zeros: it was emptied")]
@@ -50,11 +48,6 @@ impl CqError {
     /// Whether that file isn't the one that was there: another program would do no better.
     pub fn is_of_lost_file(&self) -> bool {
         matches!(self, CqError::FileMissing | CqError::FileBlank)
-    }
-
-    /// Whether that file has lines where entries are wanted.
-    pub fn is_of_other_journal(&self) -> bool {
-        self.has_said("OtherJournal")
     }
 
     /// Whether a program ran, and is gone.
@@ -125,7 +118,7 @@ impl KeptFile {
 }
 
 /// Whether a file has nothing but zeros. It takes time in proportion to those with which it begins.
-fn is_blank(path: &Path) -> io::Result<bool> {
+pub fn is_blank(path: &Path) -> io::Result<bool> {
     let file = OpenOptions::new().read(true).custom_flags(libc::O_NONBLOCK).open(path)?;
     let mut reader = BufReader::with_capacity(PIECE, file);
     loop {
@@ -165,11 +158,6 @@ impl Cq {
     /// Starts the only server of a chain, which begins with the store that it is given.
     pub fn start_loading(program: &str) -> Result<Cq, CqError> {
         Cq::start_as(program, &["server", "--id", "1", "--first", "1", "--load"], None)
-    }
-
-    /// Starts a session. One that keeps its lines in a file first tells that it is ready.
-    pub fn start_session(program: &str, file: Option<&KeptFile>) -> Result<Cq, CqError> {
-        Cq::start_as(program, &["session"], file)
     }
 
     /// Starts the program. It gets no signals of the terminal, so that it outlives the gateway's own end in good order.
@@ -277,22 +265,6 @@ fn said(status: std::process::ExitStatus) -> String {
         (None, Some(signal)) => format!("signal {signal}"),
         (None, None) => "an unknown status".into(),
     }
-}
-
-/// Has the program make a journal of entries of one of lines, however long that takes.
-pub async fn convert(program: &str, lines: &Path, entries: &Path) -> Result<(), CqError> {
-    let mut command = std::process::Command::new(program);
-    command.arg("convert").arg(lines).arg(entries).process_group(0);
-    command.stdin(Stdio::null()).stdout(Stdio::null()).stderr(Stdio::piped());
-    end_with_this_process(&mut command);
-    let ended = Command::from(command).kill_on_drop(true).output().await;
-    let ended = ended.map_err(|error| CqError::NotStarted { program: program.into(), why: error.to_string() })?;
-    if !ended.status.success() {
-        let words = String::from_utf8_lossy(&ended.stderr);
-        let first = words.trim().lines().next().map_or_else(|| said(ended.status), str::to_string);
-        return Err(CqError::NotConverted(first));
-    }
-    Ok(())
 }
 
 /// Refuses a checkout's script `cq` whose program isn't built, since nobody wants to wait for a proof here. The script

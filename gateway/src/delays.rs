@@ -12,13 +12,10 @@ use tokio::sync::Notify;
 use crate::clock::{Clock, Moment};
 use crate::errors::SqsError;
 use crate::handles::Mark;
-use crate::messages::{Envelope, EnvelopeHead};
 use crate::moves::{move_due, show_again};
-use crate::parts;
-use crate::queues::ask::{Ask, Cause, Delayed, Handed, PartsCause};
+use crate::queues::ask::Handed;
 use crate::queues::Queue;
 use crate::store::{Held, Store};
-use crate::texts::{DedupId, GroupId};
 
 /// So many messages are moved, or handed out, at once.
 const AT_ONCE: usize = 10;
@@ -28,9 +25,6 @@ const FAR: usize = 100;
 
 /// Messages that couldn't be moved are tried again after so many milliseconds.
 const PAUSE: u64 = 1000;
-
-/// So many messages of an older journal are sent at once.
-const TAKEN_OVER_AT_ONCE: usize = 32;
 
 /// What is handed out before it is due is hidden for so many seconds: as long as can be.
 const HIDDEN: u32 = 43_200;
@@ -209,7 +203,7 @@ pub async fn prepare(store: &Store, queue: &Arc<Queue>) -> Result<(), SqsError> 
 }
 
 /// Creates the queue beside one that nobody else has, unless it is there.
-pub async fn create_beside(store: &Store, queue: &Arc<Queue>) -> Result<(), SqsError> {
+async fn create_beside(store: &Store, queue: &Arc<Queue>) -> Result<(), SqsError> {
     let (name, removed) = {
         let state = queue.state();
         (state.entry.store, state.removed)
@@ -222,58 +216,4 @@ pub async fn create_beside(store: &Store, queue: &Arc<Queue>) -> Result<(), SqsE
             store.ask(&Arc::new(delays), create).await.map(drop)
         }
     }
-}
-
-/// Sends delayed messages to the store that an older journal has in records of their own. What the store refuses is set aside
-/// until the next start.
-pub async fn take_over(store: &Store) -> Result<(), SqsError> {
-    for queue in store.queues().all() {
-        let older = queue.state().older_delayed();
-        send_older(store, &queue, older).await?;
-    }
-    Ok(())
-}
-
-async fn send_older(store: &Store, queue: &Arc<Queue>, older: Vec<Arc<Delayed>>) -> Result<(), SqsError> {
-    if older.is_empty() {
-        return Ok(());
-    }
-    prepare(store, queue).await?;
-    for some in older.chunks(TAKEN_OVER_AT_ONCE) {
-        let (mut refused, mut asks, mut numbers) = (Vec::new(), Vec::new(), Vec::new());
-        for message in some {
-            match ready_older(store, queue, message).await {
-                Ok((ask, number)) => {
-                    asks.push(ask);
-                    numbers.extend(number);
-                    refused.push(None);
-                }
-                Err(error) => refused.push(Some(error)),
-            }
-        }
-        let answers = if asks.is_empty() { Vec::new() } else { store.ask_all_beside(queue, asks).await };
-        parts::settle(store, &numbers);
-        for (message, answer) in some.iter().zip(parts::in_place(refused, answers)) {
-            match answer {
-                Ok(_) => {}
-                Err(error) if is_for_now(&error) => return Err(error),
-                Err(error) => {
-                    tracing::error!("the delayed message {} of {} is set aside: {error}", message.id, queue.name);
-                }
-            }
-        }
-    }
-    Ok(())
-}
-
-/// What goes to the store in the place of an older journal's record, when its parts are there, and their number.
-async fn ready_older(store: &Store, queue: &Queue, message: &Delayed) -> Result<(Ask, Option<u64>), SqsError> {
-    let no_envelope = || SqsError::InternalFailure("The journal has a message in no form.".into());
-    let head = EnvelopeHead::of(&message.envelope).ok_or_else(no_envelope)?;
-    let head = EnvelopeHead { id: Some(message.id), due: Some(message.due), ..head };
-    let whole = head.over(&message.envelope).ok_or_else(no_envelope)?;
-    let envelope = Envelope::of_whole(Some(message.id), whole).map_err(|_| no_envelope())?;
-    let (group, dedup) = (GroupId::of_message(message.id), DedupId::of_message(message.id));
-    let ask = Ask::Send { group, dedup, envelope, cause: Cause::Older(message.id) };
-    parts::put(store, queue, ask, PartsCause::Move).await
 }

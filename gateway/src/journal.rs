@@ -5,7 +5,7 @@
 
 use std::ffi::OsString;
 use std::fs::{File, OpenOptions, Permissions};
-use std::io::{self, Read, Write};
+use std::io::{self, Read};
 use std::os::unix::fs::{FileExt, MetadataExt, OpenOptionsExt, PermissionsExt};
 use std::path::{Path, PathBuf};
 use std::thread;
@@ -30,8 +30,22 @@ pub enum JournalError {
     InUse(String),
     #[error("{0}: a journal must be on a disk of this machine")]
     Network(String),
+    #[error("{0} is no journal by itself: the files of one are FILE.cq1 and so on, and --journal names FILE")]
+    NoJournal(String),
+    #[error("{0} is of the journal of an earlier build. {why}", why = NOT_PROMISED)]
+    Earlier(String),
+    #[error(
+        "{0} is no journal of this build: it is of another one, cut off, or none at all ({1}). {why}",
+        why = NOT_PROMISED
+    )]
+    OtherForm(String, String),
     #[error("{0} is missing: the journal has a file for each program, as many as --shards says")]
     Missing(String),
+    #[error(
+        "{0} is missing, and had requests, as {1} notes. Put the file or a copy of the journal there; to begin with \
+         nothing, remove {1}"
+    )]
+    Lost(String, String),
     #[error("{0} is missing: the journal has a file for each program, and its book says that there are {1}")]
     Lacks(String, u32),
     #[error("{0} is there: the journal has a file for each program, and --shards says {1}")]
@@ -42,6 +56,11 @@ pub enum JournalError {
     )]
     Emptied(String, String),
 }
+
+/// What whoever has the journal of another build has to know.
+const NOT_PROMISED: &str =
+    "Before version 0.2.0 no format of a journal is promised, and none is upgraded: docs/GATEWAY.md, \
+     \"Upgrade\", says how the messages get into a new one";
 
 impl From<io::Error> for JournalError {
     fn from(error: io::Error) -> JournalError {
@@ -54,15 +73,6 @@ impl From<io::Error> for JournalError {
 const PATIENCE: Duration = Duration::from_secs(2);
 
 const PAUSE: Duration = Duration::from_millis(20);
-
-/// What stands in the place of an earlier version's first segment, so that an older gateway refuses to begin beside the
-/// journal.
-const BAR: &[u8] = b"hobbychair journal 9\nThe programs cq keep this journal in files of their own.\n";
-
-/// Whether a file with these first bytes keeps older gateways out.
-pub fn is_bar(front: &[u8]) -> bool {
-    front.starts_with(&BAR[..b"hobbychair journal 9\n".len()])
-}
 
 /// The names of the files, and how large each is made.
 #[derive(Clone, Debug)]
@@ -103,12 +113,17 @@ pub fn emptied(path: &Path, file: &Path) -> JournalError {
     JournalError::Emptied(file.display().to_string(), lock_of(path).display().to_string())
 }
 
+/// Why a journal isn't begun anew of which no file is there, and that had requests.
+pub fn lost(path: &Path) -> JournalError {
+    JournalError::Lost(file_of(path, 1).display().to_string(), lock_of(path).display().to_string())
+}
+
 fn lock_of(path: &Path) -> PathBuf {
     with_suffix(path, "lock")
 }
 
 /// The path with something behind it.
-pub fn with_suffix(path: &Path, suffix: &str) -> PathBuf {
+fn with_suffix(path: &Path, suffix: &str) -> PathBuf {
     let mut name = OsString::from(path.as_os_str());
     name.push(".");
     name.push(suffix);
@@ -124,24 +139,14 @@ impl Files {
         &self.path
     }
 
-    pub fn shards(&self) -> Shards {
-        self.shards
-    }
-
     /// The file of the program at this place, which is there.
     pub fn of(&self, place: usize) -> KeptFile {
-        KeptFile { path: with_suffix(&self.path, &format!("cq{}", place + 1)), making: Making::Refused }
+        KeptFile { path: file_of(&self.path, place as u64 + 1), making: Making::Refused }
     }
 
-    /// The same under the name that it has first, where it may be made: as large as these are at least, in MiB, where nothing else is said.
-    pub fn fresh(&self, place: usize, least: u64) -> KeptFile {
-        let size = self.size.or((least > DEFAULT_SIZE).then_some(least));
-        KeptFile { path: with_suffix(&self.of(place).path, "new"), making: Making::OfSize(size) }
-    }
-
-    /// The file to which lines go that the journal of an earlier version is put as, before they are turned into entries.
-    pub fn of_lines(&self, place: usize, least: u64) -> KeptFile {
-        KeptFile { path: with_suffix(&self.of(place).path, "lines"), ..self.fresh(place, least) }
+    /// The same under the name that it has first, where it may be made.
+    pub fn fresh(&self, place: usize) -> KeptFile {
+        KeptFile { path: with_suffix(&self.of(place).path, "new"), making: Making::OfSize(self.size) }
     }
 
     fn places(&self) -> std::ops::Range<usize> {
@@ -156,7 +161,6 @@ impl Files {
 
     /// Keeps all other gateways from the journal.
     pub fn lock(&self) -> Result<Lock, JournalError> {
-        test_place(&self.path)?;
         let name = lock_of(&self.path);
         let mut options = OpenOptions::new();
         // Whoever can read it could hold it, and keep the gateway from starting.
@@ -177,7 +181,6 @@ impl Files {
 
     /// Whether the journal is there. What was left where its making was cut off is gone after this.
     pub fn is_there(&self) -> Result<bool, JournalError> {
-        self.go_on_converting()?;
         let found = self.found()?;
         let missing = |place: usize| JournalError::Missing(self.of(place).path.display().to_string());
         if found.contains(&0) {
@@ -191,9 +194,13 @@ impl Files {
             self.clear_fresh()?;
             return Ok(true);
         }
+        let had_requests = has_had_requests(&self.path)?;
+        if had_requests && found.is_empty() {
+            return Err(lost(&self.path));
+        }
         // That of the first program was about to get its name.
-        let was_cut_off = self.fresh(0, 0).path.exists();
-        if !was_cut_off && (!found.is_empty() || bars_older(&self.path)? || has_had_requests(&self.path)?) {
+        let was_cut_off = self.fresh(0).path.exists();
+        if had_requests || (!was_cut_off && !found.is_empty()) {
             return Err(missing(0));
         }
         for place in found {
@@ -206,74 +213,16 @@ impl Files {
 
     /// Removes files that have no name of the journal yet.
     pub fn clear_fresh(&self) -> io::Result<()> {
-        for word in ["new", "new.part", "lines"] {
-            self.clear(word)?;
+        for number in numbers_behind(&self.path, |suffix| suffix.strip_prefix("cq")?.strip_suffix(".new"))? {
+            remove(&with_suffix(&self.path, &format!("cq{number}.new")))?;
         }
         Ok(())
-    }
-
-    /// Removes the files whose names have this word behind that of a program's file.
-    fn clear(&self, word: &str) -> io::Result<()> {
-        for number in numbers_before(&self.path, word)? {
-            remove(&with_suffix(&self.path, &format!("cq{number}.{word}")))?;
-        }
-        Ok(())
-    }
-
-    /// Where the file of the program at this place is to go as one of entries. Nothing is there.
-    pub fn begin_conversion(&self, place: usize) -> io::Result<PathBuf> {
-        let entries = with_suffix(&self.of(place).path, CONVERTED);
-        remove(&with_suffix(&entries, "part"))?;
-        remove(&entries)?;
-        Ok(entries)
-    }
-
-    /// Puts the file of entries that is there by now in the place of the one of lines. Tells the name by which that one goes from then
-    /// on: it is of a journal that no gateway finds by this path. Between both names there is no file, and a start goes on there.
-    pub fn put_converted(&self, place: usize) -> io::Result<PathBuf> {
-        let file = self.of(place).path;
-        let old = self.old_name(place)?;
-        about(&file, std::fs::rename(&file, &old))?;
-        sync_folder(&self.path)?;
-        let entries = with_suffix(&file, CONVERTED);
-        about(&entries, std::fs::rename(&entries, &file))?;
-        sync_folder(&self.path)?;
-        Ok(old)
-    }
-
-    /// A name `PATH.old.cqN` that is free, of a journal `PATH.old`, or `PATH.old2` and so on, that has none of an earlier version.
-    fn old_name(&self, place: usize) -> io::Result<PathBuf> {
-        for number in 1u32.. {
-            let word = if number == 1 { "old".to_string() } else { format!("old{number}") };
-            let path = with_suffix(&self.path, &word);
-            let name = with_suffix(&path, &format!("cq{}", place + 1));
-            if !name.exists() && numbers_behind(&path, |suffix| Some(suffix))?.is_empty() {
-                return Ok(name);
-            }
-        }
-        Err(io::ErrorKind::AlreadyExists.into())
-    }
-
-    /// A file of entries stands under its first name where a start was cut off: it takes the place of the one of lines, if that has
-    /// another name by now, and else it is made again.
-    fn go_on_converting(&self) -> io::Result<()> {
-        for number in numbers_before(&self.path, CONVERTED)? {
-            let file = with_suffix(&self.path, &format!("cq{number}"));
-            let entries = with_suffix(&file, CONVERTED);
-            if file.exists() {
-                remove(&entries)?;
-            } else {
-                about(&entries, std::fs::rename(&entries, &file))?;
-                sync_folder(&self.path)?;
-            }
-        }
-        self.clear(&format!("{CONVERTED}.part"))
     }
 
     /// Gives the files their names. From the last of these on the journal is there.
     pub fn publish(&self) -> io::Result<()> {
         for place in self.places().rev() {
-            let (fresh, name) = (self.fresh(place, 0).path, self.of(place).path);
+            let (fresh, name) = (self.fresh(place).path, self.of(place).path);
             if place == 0 {
                 sync_folder(&self.path)?;
             }
@@ -281,29 +230,47 @@ impl Files {
         }
         sync_folder(&self.path)
     }
+}
 
-    /// Keeps older gateways from beginning beside the journal. What they left has other names by now.
-    pub fn bar_older(&self) -> io::Result<()> {
-        keep_older_out(&self.path)
+/// How the files of earlier builds begin that kept the journal themselves.
+const EARLIER_FRONT: &[u8] = b"hobbychair journal ";
+
+/// Refuses a path by which no journal can go, and one by which an earlier build kept something. Nothing is changed.
+pub fn test_path(path: &Path) -> Result<(), JournalError> {
+    test_place(path)?;
+    let named = |path: &Path| path.display().to_string();
+    match front_of(path)? {
+        Some(front) if front.starts_with(EARLIER_FRONT) => return Err(JournalError::Earlier(named(path))),
+        Some(_) => return Err(JournalError::NoJournal(named(path))),
+        None => {}
+    }
+    let mut suffixes = suffixes_behind(path)?;
+    suffixes.sort_unstable();
+    let is_there = suffixes.iter().any(|suffix| suffix == "cq1");
+    let is_earlier = |suffix: &&String| is_of_earlier(suffix) || (!is_there && is_put_away(suffix));
+    match suffixes.iter().find(is_earlier) {
+        Some(suffix) => Err(JournalError::Earlier(named(&with_suffix(path, suffix)))),
+        None => Ok(()),
     }
 }
 
-fn bars_older(path: &Path) -> io::Result<bool> {
-    Ok(front_of(&with_suffix(path, "1"))?.is_some_and(|front| is_bar(&front)))
+/// Whether a file is an earlier build's that has this behind the path: a segment, or what the upgrade of a file left that was cut off.
+fn is_of_earlier(suffix: &str) -> bool {
+    let of_program = suffix.strip_prefix("cq").and_then(|rest| rest.split_once('.'));
+    let is_left = |(number, word)| is_number(number) && ["lines", "entries", "entries.part"].contains(&word);
+    is_number(suffix) || of_program.is_some_and(is_left)
 }
 
-/// Keeps older gateways from beginning beside the journal of this path.
-pub fn keep_older_out(path: &Path) -> io::Result<()> {
-    if bars_older(path)? {
-        return Ok(());
-    }
-    let (fresh, bar) = (with_suffix(path, "cq.new"), with_suffix(path, "1"));
-    // One that a start left which was cut off. A link in its place would lead to another file.
-    remove(&fresh)?;
-    let mut file = about(&fresh, OpenOptions::new().write(true).create_new(true).mode(0o600).open(&fresh))?;
-    about(&fresh, file.write_all(BAR).and_then(|()| file.sync_all()))?;
-    about(&fresh, std::fs::rename(&fresh, bar))?;
-    sync_folder(path)
+/// Whether an earlier build's upgrade put it away by this name. Where no journal is there, somebody may look for that one.
+fn is_put_away(suffix: &str) -> bool {
+    let is_turn = |turn: &str| turn.is_empty() || is_number(turn);
+    let of_old = suffix.strip_prefix("old").and_then(|rest| rest.split_once('.'));
+    let is_old = |(turn, file): (&str, &str)| is_turn(turn) && is_number(file.strip_prefix("cq").unwrap_or(file));
+    of_old.is_some_and(is_old) || suffix.strip_prefix("version1").is_some_and(is_turn)
+}
+
+fn is_number(text: &str) -> bool {
+    !text.is_empty() && text.bytes().all(|byte| byte.is_ascii_digit())
 }
 
 /// The numbers of the programs' files that are there, from 1.
@@ -314,34 +281,41 @@ fn numbers_of_files(path: &Path) -> io::Result<Vec<u64>> {
 /// The files of the journal of this path, up to the last one that is there. Others may be missing.
 pub fn files_of(path: &Path) -> io::Result<Vec<PathBuf>> {
     let last = numbers_of_files(path)?.into_iter().max().unwrap_or(0);
-    Ok((1..=last).map(|number| with_suffix(path, &format!("cq{number}"))).collect())
+    Ok((1..=last).map(|number| file_of(path, number)).collect())
 }
 
-/// The numbers of the programs' files whose names have this word behind them.
-fn numbers_before(path: &Path, word: &str) -> io::Result<Vec<u64>> {
-    numbers_behind(path, |suffix| suffix.strip_prefix("cq")?.strip_suffix(word)?.strip_suffix('.'))
+/// Those that are there.
+pub fn files_found(path: &Path) -> io::Result<Vec<PathBuf>> {
+    Ok(numbers_of_files(path)?.into_iter().map(|number| file_of(path, number)).collect())
 }
 
-/// Behind the name of a program's file, where it was turned into one of entries and hasn't taken its place.
-const CONVERTED: &str = "entries";
-
-/// As large a program makes a file of which nothing is said, in MiB.
-const DEFAULT_SIZE: u64 = 256;
+/// The name of the file of this number, from 1.
+pub fn file_of(path: &Path, number: u64) -> PathBuf {
+    with_suffix(path, &format!("cq{number}"))
+}
 
 /// The numbers in the names of files that begin as the path does, of which `number_in` finds one behind that.
-pub fn numbers_behind(path: &Path, number_in: impl Fn(&str) -> Option<&str>) -> io::Result<Vec<u64>> {
+fn numbers_behind(path: &Path, number_in: impl Fn(&str) -> Option<&str>) -> io::Result<Vec<u64>> {
+    let suffixes = suffixes_behind(path)?;
+    let digits =
+        suffixes.iter().filter_map(|suffix| number_in(suffix)).filter(|digits| !digits.starts_with(['0', '+']));
+    let mut numbers: Vec<_> = digits.filter_map(|digits| digits.parse::<u64>().ok()).collect();
+    numbers.sort_unstable();
+    Ok(numbers)
+}
+
+/// What stands behind the path and a dot in the names of files.
+fn suffixes_behind(path: &Path) -> io::Result<Vec<String>> {
     let Some(own) = path.file_name().and_then(|name| name.to_str()) else {
         return Err(io::Error::new(io::ErrorKind::InvalidInput, "the journal has no name"));
     };
-    let mut numbers = Vec::new();
+    let mut suffixes = Vec::new();
     for entry in about(folder_of(path), std::fs::read_dir(folder_of(path)))? {
         let name = entry?.file_name();
         let suffix = name.to_str().and_then(|name| name.strip_prefix(own)?.strip_prefix('.'));
-        let digits = suffix.and_then(&number_in).filter(|digits| !digits.starts_with(['0', '+']));
-        numbers.extend(digits.and_then(|digits| digits.parse::<u64>().ok()));
+        suffixes.extend(suffix.map(str::to_string));
     }
-    numbers.sort_unstable();
-    Ok(numbers)
+    Ok(suffixes)
 }
 
 fn folder_of(path: &Path) -> &Path {
@@ -352,7 +326,7 @@ fn folder_of(path: &Path) -> &Path {
 }
 
 /// After this, names that were given and removed in the folder of the path outlive a power cut.
-pub fn sync_folder(path: &Path) -> io::Result<()> {
+fn sync_folder(path: &Path) -> io::Result<()> {
     let folder = folder_of(path);
     about(folder, File::open(folder).and_then(|folder| folder.sync_all()))
 }
@@ -394,7 +368,7 @@ pub fn take_space(path: &Path) -> io::Result<()> {
 }
 
 /// The first bytes of a file; none where there is no such file.
-pub fn front_of(path: &Path) -> io::Result<Option<Vec<u8>>> {
+fn front_of(path: &Path) -> io::Result<Option<Vec<u8>>> {
     let file = match open_file(path, OpenOptions::new().read(true)) {
         Ok(file) => file,
         Err(error) if error.kind() == io::ErrorKind::NotFound => return Ok(None),
@@ -406,7 +380,7 @@ pub fn front_of(path: &Path) -> io::Result<Option<Vec<u8>>> {
 }
 
 /// An error names the file that it is about.
-pub fn about<T>(path: &Path, result: io::Result<T>) -> io::Result<T> {
+fn about<T>(path: &Path, result: io::Result<T>) -> io::Result<T> {
     result.map_err(|error| io::Error::new(error.kind(), format!("{}: {error}", path.display())))
 }
 
@@ -532,45 +506,53 @@ pub mod tests {
         assert_eq!((files.is_there(), room.names().len()), (Ok(false), 0), "so was this");
         (1..=3).for_each(|number| room.put(&format!("j.cq{number}.new"), number.to_string().as_bytes()));
         files.publish().unwrap();
-        files.bar_older().unwrap();
-        assert_eq!(room.names(), ["j.1", "j.cq1", "j.cq2", "j.cq3"]);
+        assert_eq!(room.names(), ["j.cq1", "j.cq2", "j.cq3"]);
         assert_eq!(std::fs::read(room.0.join("j.cq2")).unwrap(), b"2");
         assert_eq!(files.is_there(), Ok(true));
-        files.bar_older().unwrap();
-        assert!(is_bar(&front_of(&room.0.join("j.1")).unwrap().unwrap()));
     }
 
     #[test]
-    fn a_file_of_entries_takes_the_place_of_one_of_lines_whenever_that_is_cut_off() {
-        let room = Room::new("entries");
-        let files = files(&room, 2);
-        (1..=2).for_each(|number| room.put(&format!("j.cq{number}"), b"lines"));
-        std::fs::write(files.begin_conversion(1).unwrap(), b"entries").unwrap();
-        room.put("j.cq2.entries.part", b"");
-        assert_eq!((files.is_there(), room.names()), (Ok(true), vec!["j.cq1".into(), "j.cq2".into()]));
-        assert_eq!(std::fs::read(room.0.join("j.cq2")).unwrap(), b"lines", "it is begun anew");
-        std::fs::rename(room.0.join("j.cq2"), room.0.join("j.old.cq2")).unwrap();
-        room.put("j.cq2.entries", b"entries");
-        assert_eq!(files.is_there(), Ok(true));
-        assert_eq!(std::fs::read(room.0.join("j.cq2")).unwrap(), b"entries");
-        std::fs::write(files.begin_conversion(0).unwrap(), b"entries").unwrap();
-        assert_eq!(files.put_converted(0).unwrap(), room.0.join("j.old.cq1"));
-        assert_eq!(room.names(), ["j.cq1", "j.cq2", "j.old.cq1", "j.old.cq2"]);
-        assert_eq!(std::fs::read(room.0.join("j.cq1")).unwrap(), b"entries");
-        assert_eq!(std::fs::read(room.0.join("j.old.cq1")).unwrap(), b"lines");
-        assert_eq!(files.is_there(), Ok(true));
+    fn what_an_earlier_build_kept_is_refused_by_its_name_and_stays() {
+        let names = [
+            "1",
+            "2",
+            "17",
+            "cq1.lines",
+            "cq2.entries",
+            "cq2.entries.part",
+            "old.1",
+            "old.cq1",
+            "old2.cq1",
+            "version1",
+            "version12",
+        ];
+        for name in names.map(|suffix| format!("j.{suffix}")) {
+            let room = Room::new("earlier");
+            room.put(&name, b"kept");
+            let refused = JournalError::Earlier(room.0.join(&name).display().to_string());
+            assert_eq!(test_path(&room.0.join("j")), Err(refused));
+            assert_eq!(room.names(), [name]);
+        }
+        let room = Room::new("other");
+        room.put("j", b"hobbychair journal 1\n..");
+        assert!(matches!(test_path(&room.0.join("j")), Err(JournalError::Earlier(_))));
+        room.put("j", b"Dear Sir or Madam");
+        assert!(matches!(test_path(&room.0.join("j")), Err(JournalError::NoJournal(_))));
+        assert_eq!(room.names(), ["j"]);
     }
 
     #[test]
-    fn what_is_put_away_takes_no_name_that_something_has() {
-        let room = Room::new("names");
-        let files = files(&room, 1);
-        let name = |name: &str| room.0.join(name);
-        assert_eq!(files.old_name(0).unwrap(), name("j.old.cq1"));
-        room.put("j.old.1", b"hobbychair journal 8\n");
-        assert_eq!(files.old_name(0).unwrap(), name("j.old2.cq1"));
-        room.put("j.old2.cq1", b"");
-        assert_eq!(files.old_name(0).unwrap(), name("j.old3.cq1"));
+    fn names_beside_a_journal_that_no_earlier_build_kept_are_passed_over() {
+        let room = Room::new("beside");
+        for name in ["j.cq1", "j.old.cq1", "j.old.1", "j.version1", "j.cq1.new", "j.log", "j2.1", "j.1.gz", "j.lines"] {
+            room.put(name, b"kept");
+        }
+        assert_eq!(test_path(&room.0.join("j")), Ok(()));
+        std::fs::remove_file(room.0.join("j.cq1")).unwrap();
+        assert!(matches!(test_path(&room.0.join("j")), Err(JournalError::Earlier(_))));
+        ["j.old.cq1", "j.old.1", "j.version1"].iter().for_each(|name| std::fs::remove_file(room.0.join(name)).unwrap());
+        ["j.old.gz", "j.older.1", "j.version1.txt", "j.cqx.lines"].iter().for_each(|name| room.put(name, b"kept"));
+        assert_eq!(test_path(&room.0.join("j")), Ok(()));
     }
 
     #[test]
@@ -583,10 +565,14 @@ pub mod tests {
         std::fs::remove_file(room.0.join("j.cq1")).unwrap();
         assert_eq!(files(&room, 3).is_there(), Err(JournalError::Missing(name(1))));
         (2..=3).for_each(|number| std::fs::remove_file(room.0.join(format!("j.cq{number}"))).unwrap());
-        room.put("j.1", BAR);
-        assert_eq!(files(&room, 3).is_there(), Err(JournalError::Missing(name(1))));
-        room.put("j.1", b"hobbychair journal 8\n");
+        room.put("j.lock", b"");
         assert_eq!(files(&room, 3).is_there(), Ok(false));
+        room.put("j.lock", HAS_REQUESTS);
+        for _ in 0..2 {
+            assert_eq!(files(&room, 3).is_there(), Err(lost(&room.0.join("j"))));
+            // Whatever this is, it hasn't got the requests.
+            room.put("j.cq1.new", b"new");
+        }
     }
 
     #[test]
@@ -597,8 +583,12 @@ pub mod tests {
         assert_eq!(refused, Err(JournalError::InUse(room.0.join("j").display().to_string())));
         drop(first);
         assert!(files(&room, 1).lock().is_ok());
-        let of = |path: PathBuf| Files::new(path, Shards::ONE, None).lock().map(drop);
-        assert!(matches!(of(room.0.clone()), Err(JournalError::IsFolder(_))));
-        assert!(matches!(of(room.0.join("a/b")), Err(JournalError::NoFolder { .. })));
+    }
+
+    #[test]
+    fn a_journal_is_named_by_a_file_in_a_folder_that_is_there() {
+        let room = Room::new("named");
+        assert!(matches!(test_path(&room.0), Err(JournalError::IsFolder(_))));
+        assert!(matches!(test_path(&room.0.join("a/b")), Err(JournalError::NoFolder { .. })));
     }
 }

@@ -21,12 +21,12 @@ use crate::book;
 use crate::budget::Budget;
 use crate::clock::{Clock, Moment};
 use crate::config::{Address, DeclaredQueue, Misuse};
-use crate::conversion::convert;
 use crate::cq::{test_built, test_version, Cq};
 use crate::delays;
 use crate::ending::End;
 use crate::http::{is_of_this_machine, listen, shared, test_free, Addresses, Door, Hosts, Places, Service};
-use crate::journal::{emptied, has_had_requests, has_one_name, take_space, Files, Lock};
+use crate::journal::{emptied, has_had_requests, has_one_name, take_space, test_path, Files, Lock};
+use crate::journal_file::refuse_other_forms;
 use crate::metrics::Metrics;
 use crate::move_tasks;
 use crate::moves;
@@ -38,7 +38,6 @@ use crate::queues::{Image, Queues};
 use crate::retention;
 use crate::store::{self, Ends, Kept, NodeStart, Ready, Start, Store, ToldError};
 use crate::tls::Certificate;
-use crate::upgrade::Upgrade;
 
 /// What a gateway is told at its start.
 #[derive(Clone, Debug)]
@@ -176,7 +175,7 @@ async fn prepare(settings: Arc<Settings>) -> Result<Prepared> {
 
 async fn start(settings: Arc<Settings>, prepared: Prepared) -> Result<Started> {
     let Prepared { entrance, places, admin } = prepared;
-    let running = begin(&settings, &admin.health).await?;
+    let running = begin(&settings).await?;
     // Only one store is ever set.
     let _ = admin.store.set(running.store.clone());
     tokio::spawn(retention::keep_sweeping(running.store.clone()));
@@ -266,19 +265,15 @@ fn clock_of(settings: &Settings) -> Arc<Clock> {
 }
 
 /// Starts a program that keeps its entries, and takes up what it tells of its store. Where it ends meanwhile, it is started once
-/// more; and where its file is of the version before this one, once that is turned into one of this version.
+/// more.
 async fn tell(settings: &Settings, files: &Files, place: usize) -> Result<(Ready, Image)> {
     let (program, file) = (settings.program.as_str(), files.of(place));
-    let (mut ended, mut is_converted) = (None, false);
+    let mut ended = None;
     loop {
         let mut image = Image::new(settings.peek);
         let mut take = |chunk: &[u8]| image.feed(chunk);
         match store::start_told(program, &file, settings.cq_timeout, Some(&mut take)).await {
             Ok(ready) => return Ok((ready, image)),
-            Err(error) if error.is_of_other_journal() && !is_converted => {
-                convert(program, files, place).await?;
-                is_converted = true;
-            }
             Err(error) if error.is_of_program() && ended.is_none() => {
                 tracing::warn!("cq is started again. Before, {error}");
                 ended = Some(error);
@@ -300,6 +295,34 @@ struct Begun {
     _lock: Option<Lock>,
 }
 
+/// Has the files of the journal be there. Nobody else has them for as long as what this gives is kept. Those of another build stay
+/// as they are.
+async fn take_journal(settings: &Settings, files: &Files) -> Result<Lock> {
+    test_path(files.path())?;
+    refuse_other_forms(files.path())?;
+    let lock = files.lock()?;
+    if !files.is_there()? {
+        let made = make_files(settings, files).await;
+        if made.is_err() {
+            // What a full disk took of them is wanted by others.
+            let _ = files.clear_fresh();
+        }
+        made?;
+        files.publish()?;
+    }
+    Ok(lock)
+}
+
+/// Has programs make the files, by the names that these have first.
+async fn make_files(settings: &Settings, files: &Files) -> Result<()> {
+    for shard in settings.shards.all() {
+        let file = files.fresh(shard.place());
+        let made = store::start_told(&settings.program, &file, settings.cq_timeout, None).await;
+        made.with_context(|| file.path.display().to_string())?;
+    }
+    Ok(())
+}
+
 /// A journal that was put back from a copy has as much space as it needs so far, and the disk may be full when it needs more. What is
 /// wrong with a file is told by its program.
 async fn take_space_of_all(settings: &Settings, files: &Files) {
@@ -316,15 +339,9 @@ async fn take_space_of_all(settings: &Settings, files: &Files) {
 }
 
 /// Starts programs that keep their entries, and makes the tables of what each tells of its store.
-async fn begin_kept(
-    settings: &Arc<Settings>,
-    health: &Health,
-    files: &Files,
-    tables: (&Arc<Clock>, &Queues),
-) -> Result<Begun> {
+async fn begin_kept(settings: &Arc<Settings>, files: &Files, tables: (&Arc<Clock>, &Queues)) -> Result<Begun> {
     let (clock, queues) = tables;
-    let (program, patience) = (settings.program.as_str(), settings.cq_timeout);
-    let lock = Upgrade { program, patience, files, clock, progress: &health.replayed }.prepare().await?;
+    let lock = take_journal(settings, files).await?;
     take_space_of_all(settings, files).await;
     let starting: Vec<_> = settings
         .shards
@@ -416,12 +433,12 @@ fn begin_without_journal(settings: &Settings) -> Result<Begun> {
 }
 
 /// Starts the programs, and the store in front of them.
-async fn begin(settings: &Arc<Settings>, health: &Health) -> Result<RunningStore> {
+async fn begin(settings: &Arc<Settings>) -> Result<RunningStore> {
     let (clock, queues) = (clock_of(settings), Arc::new(Queues::new(settings.peek)));
     let (program, patience, shards) = (settings.program.clone(), settings.cq_timeout, settings.shards);
     let Begun { cqs, node, kept, last, _lock } = match &settings.journal {
         _ if settings.beside_node => begin_beside_node(settings, (&clock, &queues)).await?,
-        Some(files) => begin_kept(settings, health, files, (&clock, &queues)).await?,
+        Some(files) => begin_kept(settings, files, (&clock, &queues)).await?,
         None => begin_without_journal(settings)?,
     };
     let memory = settings.memory;
@@ -456,9 +473,6 @@ async fn finish_all(store: &Store, paused: Option<(Moment, Moment)>) {
     store.queues().parts().settle_all();
     moves::finish(store).await;
     purges::finish(store).await;
-    if let Err(error) = delays::take_over(store).await {
-        tracing::warn!("delayed messages of an earlier version wait for the next start: {error}");
-    }
 }
 
 async fn answer(settings: &Settings, started: Started, signals: &mut Signals) -> Result<()> {

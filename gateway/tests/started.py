@@ -329,8 +329,7 @@ class ByQuery:
 
 
 def known_again(journal: Path, queue: str, handle: str) -> str:
-    """The handle that this version gives for the handing that one of an earlier version names: its check is made by the secret that
-    the book of the queue's program has."""
+    """The handle for the handing that another one names: its check is made by the secret that the book of the queue's program has."""
     programs = re.findall(rb'"program":\{"place":(\d+),"count":(\d+),"secret":"([0-9a-f-]{36})"', dumped(journal))
     place = zlib.crc32(queue.encode()) % int(programs[-1][1])
     (*_, secret) = (secret for own, _, secret in programs if int(own) == place)

@@ -481,9 +481,10 @@ def test_damage_and_other_files_are_refused(used, tmp_path):
     assert judged(tmp_path, lines) == all_allowed(len(lines)), "what stands before the damage is told"
     files[second].write_text("Dear Sir or Madam")
     ended = run("dump", "--answers", str(tmp_path / "journal"))
-    assert (ended.returncode, ended.stdout) == (1, "") and f"{files[second]}: it is no journal of this version" in ended.stderr
+    assert (ended.returncode, ended.stdout) == (1, "") and f"{files[second]} is no journal of this build" in ended.stderr
+    files[second].write_bytes(whole[second])
     files[0].unlink()
     ended = run("dump", "--answers", str(tmp_path / "journal"))
     assert (ended.returncode, ended.stdout) == (1, "") and f"{files[0]} is missing" in ended.stderr
     ended = run("dump", "--answers", str(tmp_path / "none"))
-    assert (ended.returncode, ended.stdout) == (1, "") and "there is no journal of this version" in ended.stderr
+    assert (ended.returncode, ended.stdout) == (1, "") and "there is no journal" in ended.stderr

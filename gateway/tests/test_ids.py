@@ -2,7 +2,6 @@
 
 from __future__ import annotations
 
-import gzip
 import json
 import re
 import time
@@ -12,7 +11,6 @@ from typing import Any
 import pytest
 
 from started import START, ByJson, Started
-from test_standard import sent_by_call
 
 FIFO = {"FifoQueue": "true"}
 RANDOM = re.compile("[0-9a-f]{8}-[0-9a-f]{4}-4[0-9a-f]{3}-[89ab][0-9a-f]{3}-[0-9a-f]{12}")
@@ -144,56 +142,3 @@ def test_a_message_that_is_moved_twice_keeps_its_id(journaled, end):
         time.sleep(0.02)
     moved = journaled.ids(first)
     assert moved.keys() == {*others, "letter"} and len({sent, *others.values(), *moved.values()}) == 8
-
-
-def repeats(journaled: Journaled) -> list[str]:
-    """The ids that repeats of sends to the queues of the stored journal are told."""
-    told = [journaled.send("q.fifo", "again", dedup=dedup) for dedup in ("plain", "large", "deleted", "held")]
-    for call, more in (("call-1", {}), ("call-2", {"DelaySeconds": 60})):
-        told += sent_by_call(journaled.gateway.url, "standard", call, 2, body=call, **more)
-    return told
-
-
-def answers(journaled: Journaled) -> dict[str, Any]:
-    """All that is told of the queues of the stored journal, but for receipt handles, which each gateway makes with a secret of its own."""
-    names = [url.rsplit("/", 1)[-1] for url in journaled.call("ListQueues")["QueueUrls"]]
-    told: dict[str, Any] = {"repeats": repeats(journaled)}
-    for name in names:
-        attributes = journaled.call("GetQueueAttributes", QueueUrl=name, AttributeNames=["All"])["Attributes"]
-        tags = journaled.call("ListQueueTags", QueueUrl=name).get("Tags", {})
-        messages = journaled.receive(name, VisibilityTimeout=0)
-        for message in messages:
-            message["Body"] = message["Body"][:20]
-            del message["ReceiptHandle"]
-        told[name] = {"attributes": attributes, "tags": tags, "messages": messages}
-    return told
-
-
-def stored_ids(journaled: Journaled) -> list[Any]:
-    queues = ("again.fifo", "dead.fifo", "q.fifo", "standard")
-    return [journaled.ids(name, VisibilityTimeout=0) for name in queues] + [repeats(journaled)]
-
-
-def test_messages_of_an_older_journal_keep_their_ids(tmp_path):
-    """The file is of version 3. It has tags, a dead letter, a body of 300,000 bytes, attributes, messages that are deleted
-    and in flight, two sends by calls, of which one is delayed, and a queue that was removed and made again. Beside it
-    stands what the gateway that wrote it told of it."""
-    path, here = tmp_path / "journal", Path(__file__)
-    old = gzip.decompress(here.with_name("version3.journal.gz").read_bytes())
-    path.with_name("journal.1").write_bytes(old)
-    assert old.startswith(b"hobbychair journal 3\n")
-    journaled = Journaled(tmp_path)
-    journaled.gateway.set_clock(START + 20_000)
-    assert answers(journaled) == json.loads(here.with_name("version3.answers.json").read_text())
-    assert path.with_name("journal.old.1").read_bytes() == old
-    ids = stored_ids(journaled)
-    assert [len(one) for one in ids] == [1, 1, 2, 3, 6]
-    for _ in range(2):
-        journaled.restart()
-        assert stored_ids(journaled) == ids
-    journaled.gateway.set_clock(START + WINDOW)
-    late = journaled.ids("standard")
-    assert late == {**ids[3], "call-2": ids[4][5]}
-    fresh = [journaled.send("q.fifo", "fresh", dedup=dedup) for dedup in ("plain", "plain")]
-    assert fresh[0] == fresh[1] and fresh[0] not in ids[4]
-    assert journaled.gateway.stop() == 0

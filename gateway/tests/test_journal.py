@@ -2,16 +2,19 @@
 
 from __future__ import annotations
 
+import hashlib
+import json
 import os
 import shutil
 import stat
 import subprocess
 import time
+from pathlib import Path
 
 import pytest
 
 from conftest import new_name
-from started import START, ByBoto3, ByJson, Refused, Started, command, environment
+from started import START, ByBoto3, ByJson, Refused, Started, command, environment, program, run
 from test_operations import get, metric
 
 LEAD = "hobbychair_clock_lead_seconds"
@@ -33,6 +36,25 @@ def journal(tmp_path):
 def start(path, *words: str) -> subprocess.CompletedProcess:
     return subprocess.run(command("--port", "0", "--journal", str(path), *words), env=environment(), timeout=60,
                           capture_output=True, text=True)
+
+
+# Where refusals say that one finds what to do.
+UPGRADE = 'docs/GATEWAY.md, "Upgrade"'
+
+
+def all_in(room: Path) -> dict[str, bytes]:
+    return {file.name: hashlib.sha256(file.read_bytes()).digest() for file in room.iterdir()}
+
+
+def refusals(path: Path, *words: str) -> list[str]:
+    """What a start says of a journal, and what commands say that look at it. They refuse it and change nothing."""
+    before, copy = all_in(path.parent), str(path.with_name("copy"))
+    asked = [[word, str(path), *([copy] if word == "backup" else [])] for word in words or ("verify", "dump", "backup")]
+    refused = [start(path), *(run(*one) for one in asked)]
+    for one in refused:
+        assert one.returncode == 1 and "undamaged" not in one.stdout and len(one.stderr.splitlines()) == 1, one
+    assert all_in(path.parent) == before
+    return [one.stderr for one in refused]
 
 
 def test_all_that_is_kept_comes_again(tmp_path):
@@ -82,11 +104,10 @@ def test_a_file_that_is_no_journal_is_left_alone(tmp_path):
     ended = start(path)
     assert ended.returncode == 1 and len(ended.stderr.splitlines()) == 1 and "is no journal" in ended.stderr
     assert path.read_text() == "Dear Sir or Madam"
-    path.unlink()
-    path.with_name("letter.cq1").write_text("Dear Sir or Madam")
-    ended = start(path)
-    assert ended.returncode == 1 and "NotAJournal" in ended.stderr
-    assert path.with_name("letter.cq1").read_text() == "Dear Sir or Madam"
+    path.rename(tmp_path / "letter.cq1")
+    for said in refusals(path):
+        assert said.startswith(f"hobbychair: {path}.cq1 is no journal of this build: it is of another one, cut off, or none"), said
+    assert "letter.cq1 is no journal by itself" in start(tmp_path / "letter.cq1").stderr
 
 
 def test_a_second_gateway_is_kept_out(journal):
@@ -123,10 +144,8 @@ def test_what_a_gateway_writes_is_locked_by_whichever_name(journal, tmp_path, na
 def test_a_file_that_is_missing_is_told(journal):
     kept = journal.with_name("kept")
     journal.with_name("journal.cq1").rename(kept)
-    for _ in range(2):
-        ended = start(journal)
-        assert ended.returncode == 1 and f"{journal}.cq1 is missing" in ended.stderr
-        assert not journal.with_name("journal.cq1").exists()
+    for said in refusals(journal):
+        assert said.startswith(f"hobbychair: {journal}.cq1 is missing, and had requests, as {journal}.lock notes."), said
     kept.rename(journal.with_name("journal.cq1"))
     gateway = Started("--journal", str(journal))
     assert ByBoto3(gateway.client())("ReceiveMessage", QueueUrl="q.fifo")["Messages"][0]["Body"] == "m0"
@@ -142,9 +161,42 @@ def test_a_file_that_is_removed_while_it_is_written_to_is_missing_at_the_next_st
     assert ended.returncode == 1 and f"{journal}.cq1 is missing" in ended.stderr
 
 
-def test_an_older_gateway_finds_no_journal_that_it_reads(journal):
-    """Up to version 8 it begins with the segments, of which the first is FILE.1, and refuses a version above its own."""
-    assert journal.with_name("journal.1").read_bytes().startswith(b"hobbychair journal 9\n")
+EARLIER = ["", ".1", ".2", ".cq1.lines", ".cq2.entries", ".old.1", ".old.cq1", ".version1"]
+
+
+@pytest.mark.parametrize("suffix", EARLIER)
+def test_what_an_earlier_build_kept_is_refused_by_its_name(tmp_path, suffix):
+    file = tmp_path / f"journal{suffix}"
+    file.write_text("hobbychair journal 8\n")
+    for said in refusals(tmp_path / "journal"):
+        assert said.startswith(f"hobbychair: {file} is of the journal of an earlier build.") and UPGRADE in said, said
+
+
+def test_a_journal_beside_which_an_earlier_build_left_something_stays_as_it_is(journal):
+    marker = journal.with_name("journal.1")
+    marker.write_text("hobbychair journal 9\n")
+    for said in refusals(journal):
+        assert said.startswith(f"hobbychair: {marker} is of the journal of an earlier build."), said
+    marker.unlink()
+    # What an upgrade put away is nobody's any more.
+    journal.with_name("journal.old.cq1").write_text("kept")
+    gateway = Started("--journal", str(journal))
+    assert ByBoto3(gateway.client())("ReceiveMessage", QueueUrl="q.fifo")["Messages"][0]["Body"] == "m0"
+    assert gateway.stop() == 0
+
+
+@pytest.mark.parametrize("length", [None, 1 << 20, 24 << 20], ids=["whole", "a root", "a part"])
+def test_a_file_of_a_session_is_refused_by_its_name(tmp_path, length):
+    """As the builds had it that spoke lines with `cq`."""
+    file = tmp_path / "journal.cq1"
+    words = [program(), "session", "--journal", str(file), "--journal-size", "96"]
+    ask = {"kind": "create", "queue": "1.fifo", "visibility": 30}
+    line = json.dumps({"op": "arrive", "at": 1, "clock": 5, "client": 1, "number": 1, "ask": ask})
+    subprocess.run(words, input=line.encode() + b"\n", stdout=subprocess.DEVNULL, check=True)
+    if length:
+        os.truncate(file, length)
+    for said in refusals(tmp_path / "journal"):
+        assert said.startswith(f"hobbychair: {file} is no journal of this build") and UPGRADE in said, said
 
 
 def test_a_journal_whose_making_is_cut_off_is_made_again(tmp_path):
@@ -164,7 +216,7 @@ def test_a_journal_whose_making_is_cut_off_is_made_again(tmp_path):
         gateway.start()
         assert len(ByBoto3(gateway.client())("ListQueues")["QueueUrls"]) == 1
         assert gateway.stop() == 0
-        assert sorted(file.name for file in room.iterdir()) == ["journal.1", "journal.cq1", "journal.cq2", "journal.lock"]
+        assert sorted(file.name for file in room.iterdir()) == ["journal.cq1", "journal.cq2", "journal.lock"]
         shutil.rmtree(room)
 
 
@@ -227,15 +279,14 @@ def test_files_are_their_owners_alone_and_no_link_is_followed(tmp_path):
     victim = tmp_path / "victim"
     victim.write_text("kept")
     victim.chmod(0o644)
-    for name in ("journal.cq1.new", "journal.cq.new"):
-        (tmp_path / name).symlink_to(victim)
+    (tmp_path / "journal.cq1.new").symlink_to(victim)
     (tmp_path / "journal.lock").touch(0o644)
     gateway = Started("--journal", str(tmp_path / "journal"))
     try:
         ByBoto3(gateway.client())("CreateQueue", QueueName="q", Attributes={})
         assert victim.read_text() == "kept" and mode(victim) == 0o644
         assert not (tmp_path / "journal.cq1").is_symlink()
-        assert {mode(tmp_path / f"journal.{name}") for name in ("cq1", "1", "lock")} == {0o600}
+        assert {mode(tmp_path / f"journal.{name}") for name in ("cq1", "lock")} == {0o600}
     finally:
         assert gateway.stop() == 0
 
@@ -293,7 +344,7 @@ def test_no_line_of_the_log_has_a_body(tmp_path):
     assert "business" not in told and "nor this" not in told
 
 
-@pytest.mark.parametrize("name", ["journal", "journal.1", "journal.lock"])
+@pytest.mark.parametrize("name", ["journal", "journal.lock"])
 def test_a_pipe_in_a_files_place_is_told(tmp_path, name):
     os.mkfifo(tmp_path / name)
     ended = start(tmp_path / "journal")

@@ -6,7 +6,7 @@ use std::io::{self, BufReader, Read};
 use std::path::Path;
 
 /// Each frame begins with these bytes. Two of them are in no text in UTF-8, so no record has them.
-pub const MARK: [u8; 4] = *b"\xffHC\xfe";
+const MARK: [u8; 4] = *b"\xffHC\xfe";
 
 /// The bytes of a frame before its payload: mark, number, place and length, and a checksum over all but the mark.
 const HEAD: usize = 4 + 8 + 8 + 4 + 4;

@@ -24,7 +24,7 @@ mod contact;
 mod cut;
 mod decision;
 mod etcd;
-pub mod framing;
+mod framing;
 pub mod identity;
 mod journal;
 mod link;

@@ -2,7 +2,6 @@
 
 mod book;
 
-use std::fmt;
 use std::io::Write;
 use std::path::{Path, PathBuf};
 use std::process::{Command, Stdio};
@@ -11,60 +10,28 @@ use anyhow::{anyhow, bail, Context, Result};
 use serde::Deserialize;
 
 use crate::disk::{lack_of_space, taken};
-use crate::journal::{emptied, files_of, has_had_requests, keep_older_out, with_suffix, JournalError};
+use crate::journal::{emptied, file_of, files_of, has_had_requests, lost, test_path, JournalError};
+use crate::journal_file::refuse_other_forms;
 
-/// What `cq verify` says of a file.
+/// What `cq verify` says of a file of a server.
 #[derive(Debug, Deserialize)]
-#[serde(tag = "kind", rename_all = "lowercase")]
-enum Found {
-    Entries {
-        bytes: u64,
-        records: u64,
-        /// All for which its store stands, and those behind it.
-        entries: u64,
-    },
-    /// It is of the version before this one, and has lines.
-    Journal {
-        bytes: u64,
-        records: u64,
-        /// Behind the store that stands for earlier ones.
-        lines: u64,
-        base: Option<Base>,
-    },
-}
-
-#[derive(Debug, Deserialize)]
-struct Base {
-    lines: u64,
-}
-
-impl Found {
-    /// Whether nothing was ever asked.
-    fn is_empty(&self) -> bool {
-        matches!(self, Found::Entries { entries: 0, .. })
-    }
-}
-
-impl fmt::Display for Found {
-    fn fmt(&self, out: &mut fmt::Formatter<'_>) -> fmt::Result {
-        match self {
-            Found::Entries { bytes, records, entries } => {
-                write!(out, "{bytes} bytes in {records} records: the store of {entries} requests")
-            }
-            Found::Journal { bytes, records, lines, base } => {
-                let earlier = base.as_ref().map_or(0, |base| base.lines);
-                write!(out, "{bytes} bytes in {records} records: a store of {earlier} lines, and {lines} lines")?;
-                out.write_str(", as an earlier version keeps them")
-            }
-        }
-    }
+struct Found {
+    bytes: u64,
+    records: u64,
+    /// All for which its store stands, and those behind it.
+    entries: u64,
 }
 
 /// The files of a journal that is there.
 pub fn files_there(path: &Path) -> Result<Vec<PathBuf>> {
+    test_path(path)?;
+    refuse_other_forms(path)?;
     let files = files_of(path)?;
+    if files.is_empty() && has_had_requests(path)? {
+        return Err(lost(path).into());
+    }
     if files.is_empty() {
-        bail!("{}: there is no journal of this version", path.display());
+        bail!("{}: there is no journal", path.display());
     }
     if let Some(missing) = files.iter().find(|file| !file.exists()) {
         bail!("{} is missing", missing.display());
@@ -96,9 +63,10 @@ fn verify_copy(program: &str, path: &Path, copy: &Path, out: &mut impl Write) ->
     let (files, has_had_requests) = (files_there(copy)?, has_had_requests(path)?);
     for file in &files {
         let said = ask(program, "verify", &[file], Stdio::piped())?;
-        let found: Found = serde_json::from_slice(&said).context("cq said what can't be read")?;
-        writeln!(out, "{}: {found}", file.display())?;
-        if has_had_requests && found.is_empty() {
+        let found = serde_json::from_slice(&said).context("cq said what can't be read")?;
+        let (name, Found { bytes, records, entries }) = (file.display(), found);
+        writeln!(out, "{name}: {bytes} bytes in {records} records: the store of {entries} requests")?;
+        if has_had_requests && entries == 0 {
             return Err(emptied(path, file).into());
         }
     }
@@ -110,15 +78,14 @@ fn verify_copy(program: &str, path: &Path, copy: &Path, out: &mut impl Write) ->
 fn test_count(program: &str, path: &Path, files: &[PathBuf]) -> Result<()> {
     let mut told = files.iter().filter_map(|file| book::program_of(program, file).transpose());
     let Some(told) = told.next().transpose()? else { return Ok(()) };
-    let mut lacks = (1..=told.count).skip(files.len()).map(|number| with_suffix(path, &format!("cq{number}")));
+    let mut lacks = (1..=told.count).skip(files.len()).map(|number| file_of(path, number.into()));
     match lacks.next() {
         Some(file) => Err(JournalError::Lacks(file.display().to_string(), told.count).into()),
         None => Ok(()),
     }
 }
 
-/// Writes the stores of a journal, as chunks, file by file. Where a file has lines, they come behind the store that stands for earlier
-/// ones.
+/// Writes the stores of a journal, as chunks, file by file.
 pub fn dump(program: &str, path: &Path, out: &mut impl Write) -> Result<()> {
     out.flush()?;
     for file in files_there(path)? {
@@ -139,21 +106,21 @@ fn copy_file(program: &str, file: &Path, copy: &Path) -> Result<()> {
 /// Copies a journal. The file of the first program is copied last, and the copy counts as a journal from then on.
 pub fn back_up(program: &str, path: &Path, copy: &Path, out: &mut impl Write) -> Result<()> {
     let files = files_there(path)?;
-    if let Some(file) = files_of(copy)?.into_iter().chain([with_suffix(copy, "1")]).find(|file| file.exists()) {
+    if let Some(file) = files_of(copy)?.into_iter().find(|file| file.exists()) {
         bail!("{} is there: a copy needs a name that nothing has", file.display());
     }
+    test_path(copy)?;
     test_count(program, path, &files)?;
     // A copy has what can be read: nobody could see there what a damaged file has lost.
     for file in &files {
         ask(program, "verify", &[file], Stdio::piped())?;
     }
-    let copies: Vec<_> = (1..=files.len()).map(|number| with_suffix(copy, &format!("cq{number}"))).collect();
+    let copies: Vec<_> = (1..).take(files.len()).map(|number| file_of(copy, number)).collect();
     let copied = files.iter().zip(&copies).rev().try_for_each(|(file, copy)| copy_file(program, file, copy));
     let verified = copied.and_then(|()| verify_copy(program, path, copy, out));
     if verified.is_err() {
         // Of a copy that isn't whole nothing stays.
         copies.iter().for_each(|copy| drop(std::fs::remove_file(copy)));
     }
-    verified?;
-    Ok(keep_older_out(copy)?)
+    verified
 }

@@ -17,7 +17,8 @@ use std::path::Path;
 
 use thiserror::Error;
 
-use crate::journal::open_file;
+use crate::cq::is_blank;
+use crate::journal::{files_found, open_file, JournalError};
 use frames::record_at;
 use pieces::{unstuffed, Form};
 use root::Root;
@@ -40,14 +41,32 @@ pub const SERVER: Lengths = Lengths { half: 524_288, region: 16_777_216 };
 pub enum JournalFileError {
     #[error(transparent)]
     Io(#[from] io::Error),
-    #[error("it is no journal of this version")]
+    #[error("it has no root that this build reads")]
     NotAJournal,
-    #[error("it has lines, as an earlier version keeps them")]
+    #[error("it has the lines of a session")]
     OtherJournal,
     #[error("it is damaged at byte {0}")]
     Damaged(u64),
     #[error("its records were written anew while it was read: read a copy of it")]
     Changed,
+}
+
+/// Refuses the files of a journal of which one has another form: that of an earlier build, or of a session, or none at all. What else
+/// is wrong with them is told by their programs.
+pub fn refuse_other_forms(path: &Path) -> Result<(), JournalError> {
+    for file in files_found(path)? {
+        match JournalFile::open(&file, SERVER) {
+            Err(why @ (JournalFileError::NotAJournal | JournalFileError::OtherJournal)) if !is_emptied(&file) => {
+                return Err(JournalError::OtherForm(file.display().to_string(), why.to_string()));
+            }
+            _ => {}
+        }
+    }
+    Ok(())
+}
+
+fn is_emptied(file: &Path) -> bool {
+    is_blank(file).unwrap_or(true)
 }
 
 /// What stands in a file, in its order.

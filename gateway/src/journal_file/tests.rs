@@ -165,7 +165,7 @@ fn a_flipped_byte_is_told_by_its_place_or_ends_its_log() {
             if is_of_head {
                 // Where its gate, its length or its mark is another one, it isn't whole, or has another checksum.
                 let is_less = [r#""one", "t\0w\u{1}o\n""#, r#""three""#, ""].contains(&read.as_str());
-                let is_none = read == "it has lines, as an earlier version keeps them";
+                let is_none = read == "it has the lines of a session";
                 assert!(
                     read.ends_with(&format!("it is damaged at byte {start}")) || is_less || is_none,
                     "{at}: {read}"
@@ -180,12 +180,15 @@ fn a_flipped_byte_is_told_by_its_place_or_ends_its_log() {
         flipped.bytes[at] ^= 0x10;
         let read = flipped.read();
         assert!(
-            read == "it is damaged at byte 0" || (at < 4 || at == 8) && read == "it is no journal of this version",
+            read == "it is damaged at byte 0" || (at < 4 || at == 8) && read == "it has no root that this build reads",
             "{at}: {read}"
         );
         // Where the other half has a later root, none of this matters but its damage.
         flipped.put(LENGTHS.half, &root(2, &[FIRST, SECOND]));
-        assert!(flipped.read() == read && read != "it is no journal of this version" || flipped.read() == ALL, "{at}");
+        assert!(
+            flipped.read() == read && read != "it has no root that this build reads" || flipped.read() == ALL,
+            "{at}"
+        );
     }
 }
 
@@ -203,7 +206,8 @@ fn a_torn_record_at_the_end_is_none_and_a_cut_file_is_no_journal() {
     for length in 0..made.bytes.len() {
         let cut = Made { room: Room::new("torn"), bytes: made.bytes[..length].to_vec() };
         let is_whole = length >= SECOND + LENGTHS.region;
-        let expected = if is_whole { format!("{ALL}, \"torn\"") } else { "it is no journal of this version".into() };
+        let expected =
+            if is_whole { format!("{ALL}, \"torn\"") } else { "it has no root that this build reads".into() };
         assert_eq!(cut.read(), expected, "{length}");
     }
 }
@@ -217,7 +221,7 @@ fn what_no_journal_of_entries_has_is_refused() {
     };
     let with = |record: &[u8]| read(&[frame(HEAD), frame(record)].concat());
     let damaged = format!("it is damaged at byte {}", FIRST + frame(HEAD).len());
-    assert_eq!(read(&frame(b"{\"op\":\"show\"}\n")), "it has lines, as an earlier version keeps them");
+    assert_eq!(read(&frame(b"{\"op\":\"show\"}\n")), "it has the lines of a session");
     assert_eq!(with(b"no line feed"), damaged);
     assert_eq!(with(b"escaped\x03\n"), damaged);
     assert_eq!(with(b"\x03\x0a\n"), damaged);
@@ -231,7 +235,7 @@ fn what_no_journal_of_entries_has_is_refused() {
         made.read()
     };
     for none in [&[][..], &[0], &[FIRST + 1], &[FIRST, FIRST], &[THIRD + LENGTHS.region]] {
-        assert_eq!(places(none), "it is no journal of this version", "{none:?}");
+        assert_eq!(places(none), "it has no root that this build reads", "{none:?}");
     }
     let mut made = Made::with_entries("places");
     made.put(LENGTHS.half, &root(1, &[FIRST, SECOND]));

@@ -278,18 +278,18 @@ impl Queues {
         removed.values().filter(|removal| now < removal.at + REMOVAL_PAUSE).cloned().collect()
     }
 
-    /// A name of the store for a queue of the program at this place: one that no queue has had, or where a moment is given, one
-    /// that is free again by then.
-    pub fn next_store_name(&self, shards: Shards, place: usize, now: Option<Moment>) -> StoreName {
-        let again = now.and_then(|now| self.names.take(place, now));
+    /// A name of the store for a queue of the program at this place: one that is free again by this moment, or that no queue has
+    /// had.
+    pub fn next_store_name(&self, shards: Shards, place: usize, now: Moment) -> StoreName {
+        let again = self.names.take(place, now);
         again.unwrap_or_else(|| StoreName(next_number(&self.last_store_name, shards, place)))
     }
 
-    /// The number of the next book of the program at this place. Where a moment is given, the name may be one that is free again by
-    /// then, if the books that are there say their order.
-    pub fn next_book(&self, shards: Shards, place: usize, now: Option<Moment>) -> u64 {
-        let now = now.filter(|_| self.books.are_ordered(place) && self.books.order_to_say(place).is_none());
-        let again = now.and_then(|now| self.names.take_book(place, now)?.book());
+    /// The number of the next book of the program at this place. Its name may be one that is free again by this moment, if the book
+    /// before it says its order.
+    pub fn next_book(&self, shards: Shards, place: usize, now: Moment) -> u64 {
+        let may_be_again = self.books.are_ordered(place) && self.books.order_to_say(place).is_none();
+        let again = may_be_again.then(|| self.names.take_book(place, now)?.book()).flatten();
         again.unwrap_or_else(|| next_number(&self.last_book, shards, place))
     }
 

@@ -3,10 +3,8 @@
 use std::borrow::Cow;
 use std::collections::{BTreeMap, BTreeSet};
 
-use serde_json::{json, Value};
-
 use crate::clock::Moment;
-use crate::lines::{AskFields, AskKind};
+use crate::lines::{AskFields, AskKind, StoreMessage, StoreReply};
 use crate::queues::ask::StoreName;
 use crate::store_bytes::written::{append, chunk};
 use crate::store_bytes::{KeptHandings, Part, QueuePart};
@@ -47,14 +45,6 @@ struct Message {
     until: Moment,
 }
 
-fn refused(code: u32) -> Value {
-    json!({"kind": "refused", "code": code})
-}
-
-fn created(incarnation: u64) -> Value {
-    json!({"kind": "created", "incarnation": incarnation})
-}
-
 impl StoreByRules {
     /// The names whose queues live.
     pub fn there(&self) -> BTreeSet<StoreName> {
@@ -62,15 +52,15 @@ impl StoreByRules {
     }
 
     /// The reply to an ask of this moment.
-    pub fn reply(&mut self, fields: &AskFields<'_>, now: Moment) -> Value {
+    pub fn reply(&mut self, fields: &AskFields<'_>, now: Moment) -> StoreReply {
         (self.entries, self.last) = (self.entries + 1, now);
         let name = self.names.entry(StoreName::parse(&fields.queue).unwrap()).or_default();
         match (fields.kind, &mut name.queue) {
             (AskKind::Create, _) => name.create(fields.visibility.unwrap_or(30), now),
-            (_, None) => refused(1),
+            (_, None) => StoreReply::Refused(1),
             (AskKind::Remove, _) => {
                 (name.queue, name.removed) = (None, Some(now));
-                json!({"kind": "removed"})
+                StoreReply::Removed
             }
             (_, Some(queue)) => queue.reply(fields, now),
         }
@@ -101,16 +91,16 @@ impl StoreByRules {
 }
 
 impl Name {
-    fn create(&mut self, timeout: u32, now: Moment) -> Value {
+    fn create(&mut self, timeout: u32, now: Moment) -> StoreReply {
         match &self.queue {
-            Some(queue) if queue.timeout == timeout => created(queue.incarnation),
-            Some(_) => refused(2),
-            None if self.removed.is_some_and(|removed| now < removed + 60_000) => refused(3),
+            Some(queue) if queue.timeout == timeout => StoreReply::Created(queue.incarnation),
+            Some(_) => StoreReply::Refused(2),
+            None if self.removed.is_some_and(|removed| now < removed + 60_000) => StoreReply::Refused(3),
             None => {
                 self.creations += 1;
                 let incarnation = self.creations;
                 self.queue = Some(LivingQueue { incarnation, timeout, ..LivingQueue::default() });
-                created(incarnation)
+                StoreReply::Created(incarnation)
             }
         }
     }
@@ -139,7 +129,7 @@ fn text(text: &Option<Cow<'_, str>>) -> String {
 }
 
 impl LivingQueue {
-    fn reply(&mut self, fields: &AskFields<'_>, now: Moment) -> Value {
+    fn reply(&mut self, fields: &AskFields<'_>, now: Moment) -> StoreReply {
         match fields.kind {
             AskKind::Send => self.send(fields, now),
             AskKind::Receive => self.receive(fields, now),
@@ -148,18 +138,18 @@ impl LivingQueue {
         }
     }
 
-    fn send(&mut self, fields: &AskFields<'_>, now: Moment) -> Value {
+    fn send(&mut self, fields: &AskFields<'_>, now: Moment) -> StoreReply {
         (self.uses, self.last) = (self.uses + 1, now);
         self.accepted.retain(|(_, moment, _)| now < moment + WINDOW);
         let id = text(&fields.dedup);
         if let Some((_, _, first)) = self.accepted.iter().find(|(own, ..)| *own == id) {
-            return json!({"kind": "sent", "sequence": first});
+            return StoreReply::Sent(*first);
         }
         self.sent += 1;
         let (group, body) = (text(&fields.group), text(&fields.body));
         self.messages.insert(self.sent, Message { group, body, handings: 0, handed: 0, until: 0 });
         self.accepted.push((id, now, self.sent));
-        json!({"kind": "sent", "sequence": self.sent})
+        StoreReply::Sent(self.sent)
     }
 
     /// The messages of open groups, in the order in which they are handed out.
@@ -172,7 +162,7 @@ impl LivingQueue {
         open.concat()
     }
 
-    fn receive(&mut self, fields: &AskFields<'_>, now: Moment) -> Value {
+    fn receive(&mut self, fields: &AskFields<'_>, now: Moment) -> StoreReply {
         (self.uses, self.last) = (self.uses + 1, now);
         let size = usize::from(fields.size.unwrap_or(1));
         let until = now + 1000 * u64::from(fields.visibility.unwrap_or(self.timeout));
@@ -181,43 +171,43 @@ impl LivingQueue {
             let message = self.messages.get_mut(&sequence).unwrap();
             (message.handings, message.handed, message.until) = (message.handings + 1, now, until);
             let receipt = format!("{}-{sequence}-{}", self.incarnation, message.handings);
-            json!({"body": message.body, "group": message.group, "receipt": receipt})
+            StoreMessage { body: message.body.clone(), group: message.group.clone(), receipt }
         };
-        json!({"kind": "received", "messages": next.into_iter().map(hand).collect::<Vec<_>>()})
+        StoreReply::Received(next.into_iter().map(hand).collect())
     }
 
-    fn delete(&mut self, receipt: &str, now: Moment) -> Value {
+    fn delete(&mut self, receipt: &str, now: Moment) -> StoreReply {
         let (incarnation, sequence, ordinal) = numbers(receipt);
         if incarnation != self.incarnation {
-            return refused(4);
+            return StoreReply::Refused(4);
         }
         let is_deleted = match self.messages.get(&sequence) {
             None if sequence <= self.sent => false,
             Some(message) if ordinal <= message.handings => ordinal == message.handings,
-            _ => return refused(4),
+            _ => return StoreReply::Refused(4),
         };
         if is_deleted {
             self.messages.remove(&sequence);
             self.last = now;
         }
-        json!({"kind": "deleted", "removed": is_deleted})
+        StoreReply::Deleted(is_deleted)
     }
 
-    fn change(&mut self, receipt: &str, visibility: u32, now: Moment) -> Value {
+    fn change(&mut self, receipt: &str, visibility: u32, now: Moment) -> StoreReply {
         let ((incarnation, sequence, ordinal), until) = (numbers(receipt), now + 1000 * u64::from(visibility));
         if incarnation != self.incarnation {
-            return refused(4);
+            return StoreReply::Refused(4);
         }
         match self.messages.get_mut(&sequence) {
-            None if sequence <= self.sent => refused(5),
-            Some(message) if ordinal != message.handings || ordinal == 0 => refused(4),
-            Some(message) if message.until <= now => refused(5),
-            Some(message) if until > message.handed + 43_200_000 => refused(6),
+            None if sequence <= self.sent => StoreReply::Refused(5),
+            Some(message) if ordinal != message.handings || ordinal == 0 => StoreReply::Refused(4),
+            Some(message) if message.until <= now => StoreReply::Refused(5),
+            Some(message) if until > message.handed + 43_200_000 => StoreReply::Refused(6),
             Some(message) => {
                 (message.until, self.last) = (until, now);
-                json!({"kind": "changed"})
+                StoreReply::Changed
             }
-            None => refused(4),
+            None => StoreReply::Refused(4),
         }
     }
 }

@@ -12,21 +12,15 @@ use crate::attributes::GivenAttributes;
 use crate::clock::Moment;
 use crate::errors::SqsError;
 use crate::handles::Receipt;
-use crate::lines::{self, AskFields, OutputLine, StoreReply};
+use crate::lines::{AskFields, StoreReply};
 use crate::messages::{parts_of, Envelope, EnvelopeHead};
 use crate::move_tasks::{MoveTask, Status};
 use crate::moves::{CopyId, Origin};
-use crate::older::Record;
-use crate::queues::ask::{
-    Ask, Cause, Changer, Delayed, Handed, Outcome, PartsAsk, PartsCause, Reach, StoreName, TableChange,
-};
-use crate::queues::book::{entries_of_facts, Entry, ProgramEntry, QueueEntry};
+use crate::queues::ask::{Ask, Cause, Changer, Handed, Outcome, PartsAsk, PartsCause, Reach, StoreName, TableChange};
+use crate::queues::book::{Entry, ProgramEntry, QueueEntry};
 use crate::queues::shards::Shards;
 use crate::queues::{Queue, Queues};
 use crate::texts::{AttemptId, DedupId, GroupId, QueueKind, QueueName};
-
-/// So long ids count, in milliseconds.
-const WINDOW: u64 = 300_000;
 
 const NAMES: [&str; 4] = ["a", "b.fifo", "c", "d.fifo"];
 
@@ -69,11 +63,6 @@ pub enum Step {
     RemoveParts,
     /// The first message is received, and deleted or not.
     Take(bool),
-    /// The queue goes over to another name in the store, if it is empty.
-    GoOver,
-    /// What a journal of an earlier version may have beside the store: a handing that counts as none, a message whose envelope
-    /// the store hasn't got, or a delayed one in a record.
-    Older(u8),
     BeginBook,
     EndBook,
     RemoveLeftOver,
@@ -108,8 +97,6 @@ pub fn steps() -> impl Strategy<Value = Steps> {
         3 => any::<Index>().prop_map(Step::Delete),
         1 => Just(Step::RemoveParts),
         4 => any::<bool>().prop_map(Step::Take),
-        2 => Just(Step::GoOver),
-        3 => (0..3u8).prop_map(Step::Older),
         2 => Just(Step::BeginBook),
         2 => Just(Step::EndBook),
         2 => Just(Step::RemoveLeftOver),
@@ -118,39 +105,7 @@ pub fn steps() -> impl Strategy<Value = Steps> {
     proptest::collection::vec((select(NAMES.to_vec()), step), 1..60)
 }
 
-/// All that the tables tell of queues, and what the store has.
-#[derive(Clone, Debug, Default, PartialEq)]
-pub struct Shown {
-    queues: Vec<String>,
-    removals: BTreeSet<String>,
-    pub used: BTreeSet<StoreName>,
-    books: Vec<(Option<u64>, Vec<u64>)>,
-    bytes: u64,
-}
-
-pub fn shown(queues: &Queues, shards: Shards, now: Moment) -> Shown {
-    queues.look_at_ages(now);
-    let all = queues.all();
-    let of_queue = |queue: &Arc<Queue>| {
-        let delays = queue.delays().map(|delays| {
-            let state = delays.state();
-            (state.entry.store, state.messages_told(), state.purging().unwrap_or(0), state.count_due(Moment::MAX))
-        });
-        let state = queue.state();
-        let told = (state.messages_told(), state.last_sequence, state.said_in);
-        format!("{:?} {:?} {told:?} {delays:?}", state.entry, state.tasks())
-    };
-    let places = 0..shards.count() as usize;
-    Shown {
-        queues: all.iter().map(of_queue).collect(),
-        removals: queues.removals(now).iter().map(|removal| format!("{removal:?}")).collect(),
-        used: all.iter().flat_map(|queue| queue.store_names()).collect(),
-        books: places.map(|place| (queues.books().current(place), queues.books().earlier(place))).collect(),
-        bytes: queues.bytes_in_use(),
-    }
-}
-
-/// The same, as far as the bytes of the stores tell it, and what it is used for.
+/// All that the tables tell of queues, as far as the bytes of the stores tell it, and what it is used for.
 #[derive(Clone, Debug, PartialEq)]
 pub struct Told {
     queues: Vec<String>,
@@ -196,17 +151,16 @@ fn secret_of(place: usize) -> Uuid {
     Uuid::from_u128(place as u128)
 }
 
-/// What was there behind a line of the journal.
+/// What was there behind a request.
 pub struct Seen {
     pub now: Moment,
-    pub shown: Shown,
-    /// What the bytes of the stores tell of it, and these stores.
+    /// The names by which queues go.
+    pub used: BTreeSet<StoreName>,
+    /// What the bytes of the stores tell of the tables, and these stores.
     pub told: Told,
     pub stores: Vec<StoreByRules>,
-    /// The last line belongs to an attempt, and no book says that yet.
+    /// The last request belongs to an attempt, and no book says that yet.
     pub is_attempt_unsaid: bool,
-    /// So does something that an earlier version has beside the store.
-    pub is_older_unsaid: bool,
     /// The messages that had a copy by then.
     pub copied: Vec<Origin>,
 }
@@ -217,46 +171,27 @@ impl Seen {
     }
 }
 
-/// Tables that live beside stores, and the journal of what was done.
+/// Tables that live beside stores, which keep their own journals.
 pub struct Living {
     pub queues: Queues,
     pub shards: Shards,
     stores: Vec<StoreByRules>,
-    is_kept: bool,
-    keeps_copies: bool,
     now: Moment,
     sends: u64,
     tasks: u64,
-    /// The lines of the journal, the replies to these, and what was there behind each of them.
-    pub lines: Vec<(Vec<u8>, String)>,
+    /// What was there behind each request that did something.
     pub seen: Vec<Seen>,
     is_attempt_unsaid: bool,
-    is_older_unsaid: bool,
     copied: Vec<Origin>,
 }
 
 impl Living {
-    /// `keeps_copies`: messages are to be looked at. `is_kept`: the stores keep their own journals, so names are used again.
-    pub fn new(shards: Shards, keeps_copies: bool, is_kept: bool) -> Living {
+    /// `keeps_copies`: messages are to be looked at.
+    pub fn new(shards: Shards, keeps_copies: bool) -> Living {
         let stores = vec![StoreByRules::default(); shards.count() as usize];
-        let (queues, lines, seen) = (Queues::new(keeps_copies), Vec::new(), Vec::new());
-        let (now, sends, tasks, copied) = (1000, 0, 0, Vec::new());
-        let (is_attempt_unsaid, is_older_unsaid) = (false, false);
-        let mut living = Living {
-            queues,
-            shards,
-            stores,
-            is_kept,
-            keeps_copies,
-            now,
-            sends,
-            tasks,
-            lines,
-            seen,
-            is_attempt_unsaid,
-            is_older_unsaid,
-            copied,
-        };
+        let (queues, seen, copied) = (Queues::new(keeps_copies), Vec::new(), Vec::new());
+        let (now, sends, tasks, is_attempt_unsaid) = (1000, 0, 0, false);
+        let mut living = Living { queues, shards, stores, now, sends, tasks, seen, is_attempt_unsaid, copied };
         shards.all().for_each(|shard| living.begin_book(shard.place()));
         living
     }
@@ -271,24 +206,20 @@ impl Living {
             Ask::Say { book: number, .. } | Ask::Parts { number, .. } => self.shards.place_of_number(*number),
             _ => place,
         };
-        let raw = serde_json::value::to_raw_value(&AskFields::of(own, &ask)).unwrap();
-        let text = self.stores[place].reply(&serde_json::from_str(raw.get()).unwrap(), self.now).to_string();
-        let line = format!("{{\"client\":1,\"number\":1,\"reply\":{text}}}");
-        let Ok(OutputLine::Answer { reply, .. }) = lines::read_output(line.as_bytes()) else { panic!("{line}") };
+        let reply = self.stores[place].reply(&AskFields::of(own, &ask), self.now);
         let refused = matches!(reply, StoreReply::Refused(_));
         let outcome = self.queues.apply_reply(place, queue, &ask, reply, self.now)?;
         if !refused {
-            let mut line = Vec::new();
-            Record::of_ask(self.now, &ask, &raw, &text).append(&mut line).unwrap();
-            line.pop();
-            self.lines.push((line, text));
-            let (now, shown) = (self.now, shown(&self.queues, self.shards, self.now));
-            let (told, stores) = (told(&self.queues, self.shards, self.now), self.stores.clone());
-            let (is_attempt_unsaid, is_older_unsaid) = (self.is_attempt_unsaid, self.is_older_unsaid);
-            let copied = self.copied.clone();
-            self.seen.push(Seen { now, shown, told, stores, is_attempt_unsaid, is_older_unsaid, copied });
+            self.see();
         }
         Ok(outcome)
+    }
+
+    fn see(&mut self) {
+        let used = self.queues.all().iter().flat_map(|queue| queue.store_names()).collect();
+        let (now, told) = (self.now, told(&self.queues, self.shards, self.now));
+        let (stores, copied, is_attempt_unsaid) = (self.stores.clone(), self.copied.clone(), self.is_attempt_unsaid);
+        self.seen.push(Seen { now, used, told, stores, is_attempt_unsaid, copied });
     }
 
     fn nameless(&self) -> Arc<Queue> {
@@ -310,7 +241,7 @@ impl Living {
     fn begin_book(&mut self, place: usize) {
         let order = self.queues.books().order_to_say(place);
         order.into_iter().for_each(|order| self.say(&self.nameless(), place, Entry::Book(order)));
-        let number = self.queues.next_book(self.shards, place, self.is_kept.then_some(self.now));
+        let number = self.queues.next_book(self.shards, place, self.now);
         let store = StoreName::of_book(number);
         self.ask(&self.nameless(), Ask::Create { store, visibility: 0, bytes: 0 }).unwrap();
         let attempts: Vec<_> = self.queues.all().iter().flat_map(|queue| queue.state().entries_of_attempts()).collect();
@@ -320,11 +251,6 @@ impl Living {
             of_mark.is_some_and(|queue| self.shards.place_of(&queue.name) == place)
         });
         of_place.collect::<Vec<_>>().into_iter().for_each(|entry| self.say(&self.nameless(), place, entry));
-        let mut queues = self.queues.all();
-        queues.retain(|queue| self.shards.place_of(&queue.name) == place);
-        for queue in queues {
-            queue.delays().into_iter().chain([queue]).for_each(|queue| self.say_older(&queue));
-        }
         let program = ProgramEntry { place, count: self.shards.count(), secret: secret_of(place) };
         self.say(&self.nameless(), place, Entry::Program(program));
     }
@@ -351,7 +277,7 @@ impl Living {
     }
 
     fn create(&mut self, name: &QueueName, place: usize) {
-        let store = self.queues.next_store_name(self.shards, place, self.is_kept.then_some(self.now));
+        let store = self.queues.next_store_name(self.shards, place, self.now);
         let entry = QueueEntry::plain(store, name.clone(), rand::random());
         let queue = Arc::new(Queue::new(&entry));
         self.ask(&queue, Ask::Create { store, visibility: 30, bytes: 1 }).unwrap();
@@ -394,8 +320,8 @@ impl Living {
 
     fn send_large(&mut self, queue: &Arc<Queue>) {
         self.sends += 1;
-        let (place, now) = (self.shards.place_of(&queue.name), self.is_kept.then_some(self.now));
-        let number = self.queues.parts().next_number(self.shards, place, now);
+        let place = self.shards.place_of(&queue.name);
+        let number = self.queues.parts().next_number(self.shards, place, Some(self.now));
         let whole = format!("{{\"sent\":{}}}\nlarge {}", self.now, self.sends);
         let head = EnvelopeHead::of(&whole).unwrap();
         let mut asks = vec![PartsAsk::Create(PartsCause::Client)];
@@ -408,60 +334,6 @@ impl Living {
         let envelope = head.in_place(number, whole.len()).unwrap();
         let _ = self.ask(queue, Ask::Send { group, dedup, envelope, cause: Cause::Client });
         self.queues.parts().settle(number);
-    }
-
-    /// Has the book say what an earlier version has of a queue beside the store.
-    fn say_older(&mut self, queue: &Arc<Queue>) {
-        let facts = queue.state().older_facts();
-        for entry in entries_of_facts(queue.mark.0, facts) {
-            self.say(&self.nameless(), self.shards.place_of(&queue.name), entry);
-        }
-    }
-
-    /// A message whose whole envelope an earlier version has beside the store goes into parts, and the book says it.
-    fn send_beside(&mut self, queue: &Arc<Queue>) {
-        self.sends += 1;
-        let id = Uuid::from_u128(u128::from(self.sends));
-        let whole = format!("{{\"id\":\"{id}\",\"sent\":{}}}\nbeside {}", self.now, self.sends);
-        let stub = format!("{{\"id\":\"{id}\",\"elsewhere\":true}}");
-        let (group, dedup) = (self.next_group(queue), DedupId::parse(&self.sends.to_string()).unwrap());
-        let envelope = Envelope::Split { stub, whole: whole.clone() };
-        let sent = self.ask(queue, Ask::Send { group, dedup, envelope, cause: Cause::Client });
-        let Ok(Outcome::Sent { sequence, .. }) = sent else { return };
-        let number = self.queues.parts().next_number(self.shards, self.shards.place_of(&queue.name), Some(self.now));
-        for ask in [PartsAsk::Create(PartsCause::Move), PartsAsk::Add(PartsCause::Move, 0, whole.clone())] {
-            self.ask(&self.nameless(), Ask::Parts { number, ask }).unwrap();
-        }
-        let line = EnvelopeHead::of(&whole).unwrap().in_place(number, whole.len()).unwrap();
-        queue.state().is_in_parts(sequence, number, line.stored().into());
-        self.queues.parts().name(number);
-    }
-
-    fn have_older(&mut self, queue: &Arc<Queue>, kind: u8) {
-        self.is_older_unsaid = true;
-        match kind {
-            0 => {
-                let (attempt, most, reach) = (None, None, Reach::Uncounted);
-                let _ = self.ask(queue, Ask::Receive { size: 1, visibility: 0, attempt, most, reach });
-            }
-            // No upgrade keeps copies.
-            1 if !self.keeps_copies => self.send_beside(queue),
-            _ if queue.name.kind() == QueueKind::Standard => {
-                self.sends += 1;
-                let (id, due) = (Uuid::from_u128(u128::from(self.sends)), self.now + 5000);
-                let call = Some(DedupId::of_call(&[100 + self.sends as u8; 32], None));
-                let delayed = Delayed { id, due, call, envelope: format!("{{}}\n\u{fffe}{}", self.sends) };
-                let change = TableChange::Delayed(Arc::new(delayed));
-                self.queues.apply_older(self.shards.place_of(&queue.name), queue, &change, self.now);
-            }
-            _ => {}
-        }
-        let facts = queue.state().older_facts();
-        let mut entries = entries_of_facts(queue.mark.0, facts);
-        let last = entries.pop();
-        entries.into_iter().for_each(|entry| self.say(&self.nameless(), self.shards.place_of(&queue.name), entry));
-        self.is_older_unsaid = false;
-        last.into_iter().for_each(|entry| self.say(&self.nameless(), self.shards.place_of(&queue.name), entry));
     }
 
     fn receive(&mut self, queue: &Arc<Queue>, size: u8, visibility: u32) -> Vec<Handed> {
@@ -653,21 +525,6 @@ impl Living {
             Step::Take(is_deleted) => {
                 self.take(queue, *is_deleted);
                 queue.delays().into_iter().for_each(|delays| self.take(&delays, *is_deleted));
-            }
-            Step::Older(kind) if self.is_kept => self.have_older(queue, *kind),
-            Step::GoOver => {
-                let is_empty = queue.delays().map_or(true, |delays| delays.state().count() == 0);
-                if is_empty && queue.state().count() == 0 && queue.state().purging().is_none() {
-                    // No queue does so before it is at rest.
-                    self.now += WINDOW;
-                    let store = self.queues.next_store_name(self.shards, self.shards.place_of(&queue.name), None);
-                    self.ask(queue, Ask::Create { store, visibility: 30, bytes: 0 }).unwrap();
-                    let entry = {
-                        let state = queue.state();
-                        QueueEntry { store, base: state.last_sequence, ..state.entry.clone() }
-                    };
-                    self.say(queue, self.shards.place_of(&queue.name), Entry::Queue(entry));
-                }
             }
             _ => {}
         }

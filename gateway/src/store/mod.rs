@@ -7,7 +7,6 @@ pub mod by_rules;
 mod figures;
 #[cfg(test)]
 pub mod living;
-mod replay;
 mod task;
 mod told;
 
@@ -33,7 +32,6 @@ use figures::Counters;
 
 pub use beside_node::{take_up as take_up_from_node, wait_for as wait_beside_node};
 pub use figures::Figures;
-pub use replay::{replay_all, start_session, ReplayError, Tables};
 pub use task::{start, Ends, Kept, NodeStart, Start};
 pub use told::{start as start_told, Ready, ToldError};
 
@@ -226,12 +224,12 @@ impl Store {
 
     /// A name of the store for a queue of this name.
     pub fn next_store_name(&self, name: &QueueName) -> StoreName {
-        self.queues.next_store_name(self.shards, self.place_of(name), Some(self.clock.now()))
+        self.queues.next_store_name(self.shards, self.place_of(name), self.clock.now())
     }
 
-    /// A name of the store for a book of the program at this place. `again`: it may have been that of an earlier one.
-    pub fn next_book(&self, place: usize, again: bool) -> StoreName {
-        StoreName::of_book(self.queues.next_book(self.shards, place, again.then(|| self.clock.now())))
+    /// A name of the store for a book of the program at this place.
+    pub fn next_book(&self, place: usize) -> StoreName {
+        StoreName::of_book(self.queues.next_book(self.shards, place, self.clock.now()))
     }
 
     /// A number for the parts of a message of this queue.
@@ -361,11 +359,6 @@ impl Store {
     /// until they are there.
     pub async fn perform_all(&self, queue: &Arc<Queue>, operations: Vec<Operation>, share: &Arc<Share>) -> Vec<Answer> {
         self.submit(queue, operations, false, Some(share)).await
-    }
-
-    /// The answers to asks of the queue beside this one, which has what is delayed.
-    pub async fn ask_all_beside(&self, queue: &Arc<Queue>, asks: Vec<Ask>) -> Vec<Answer> {
-        self.submit(queue, asks.into_iter().map(Operation::AskBeside).collect(), false, None).await
     }
 
     /// How many messages of the queue are visible and how many in flight, at this moment.

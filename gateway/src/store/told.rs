@@ -50,11 +50,6 @@ impl ToldError {
             ToldError::Image { .. } | ToldError::NoMemory(_) => false,
         }
     }
-
-    /// Whether the file has the journal of a session.
-    pub fn is_of_other_journal(&self) -> bool {
-        matches!(self, ToldError::Cq(error) if error.is_of_other_journal())
-    }
 }
 
 /// A program that is ready, and how many entries its store took.

@@ -7,7 +7,7 @@ use super::super::stored::Receipt;
 use super::super::{check, Told};
 use super::*;
 use crate::history::stored::line_of_chunk;
-use crate::lines::{AskFields, AskKind, StoreMessage};
+use crate::lines::{AskFields, AskKind};
 use crate::queues::ask::StoreName;
 use crate::seeded;
 use crate::store::by_rules::StoreByRules;
@@ -337,22 +337,6 @@ fn fields(queue: &str, ask: &Ask) -> AskFields<'static> {
     }
 }
 
-fn words(reply: &StoreReply) -> Value {
-    match reply {
-        StoreReply::Created(incarnation) => json!({"kind": "created", "incarnation": incarnation}),
-        StoreReply::Removed => json!({"kind": "removed"}),
-        StoreReply::Sent(sequence) => json!({"kind": "sent", "sequence": sequence}),
-        StoreReply::Received(messages) => {
-            let message = |one: &StoreMessage| json!({"body": one.body, "group": one.group, "receipt": one.receipt});
-            json!({"kind": "received", "messages": messages.iter().map(message).collect::<Vec<_>>()})
-        }
-        StoreReply::Deleted(removed) => json!({"kind": "deleted", "removed": removed}),
-        StoreReply::Changed => json!({"kind": "changed"}),
-        StoreReply::Refused(code) => json!({"kind": "refused", "code": code}),
-        StoreReply::Counts { .. } => Value::Null,
-    }
-}
-
 /// A store that is made of another one's bytes.
 fn loaded(other: &StoreByRules, number: u64) -> Store {
     let mut loading = Loading::default();
@@ -383,7 +367,7 @@ fn replies_are_those_of_another_store_by_the_rules_also_where_one_begins_with_it
             }
             let expected = other.reply(&fields(&request.queue, &request.ask), now);
             let (Reply { reply, .. }, _) = store.reply(&request, now).unwrap();
-            prop_assert_eq!(words(&reply), expected, "{:?} at {}", request, now);
+            prop_assert_eq!(&reply, &expected, "{:?} at {}", request, now);
             let told = request.told(1, &reply).unwrap();
             let line = request.line(1, now, told);
             prop_assert_eq!(Request::of(&line, line.store.unwrap()), Ok(request));

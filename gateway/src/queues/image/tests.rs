@@ -15,7 +15,7 @@ use crate::store_bytes::written::{append, chunk};
 use crate::store_bytes::KeptHandings;
 use crate::texts::{Body, QueueName};
 
-/// The tables that are made of what was there behind a line.
+/// The tables that are made of what was there behind a request.
 fn made_of(seen: &Seen, shards: Shards, keeps_copies: bool, parts: usize) -> Queues {
     let queues = Queues::new(keeps_copies);
     for (shard, store) in shards.all().zip(&seen.stores) {
@@ -31,9 +31,6 @@ fn made_of(seen: &Seen, shards: Shards, keeps_copies: bool, parts: usize) -> Que
 
 fn compare(living: &Living, count: usize, parts: usize) -> TestCaseResult {
     let Some(seen) = count.checked_sub(1).map(|last| &living.seen[last]) else { return Ok(()) };
-    if seen.is_older_unsaid {
-        return Ok(());
-    }
     let queues = made_of(seen, living.shards, living.queues.keeps_copies, parts);
     let (mut made, mut there) = (told(&queues, living.shards, seen.now), seen.told.clone());
     if seen.is_attempt_unsaid {
@@ -47,7 +44,7 @@ fn compare(living: &Living, count: usize, parts: usize) -> TestCaseResult {
     }
     let places = 0..living.shards.count() as usize;
     let left: std::collections::BTreeSet<_> = places.flat_map(|place| queues.left_over().of(place)).collect();
-    let is_left = |name: &StoreName| name.book().is_none() && name.parts().is_none() && !seen.shown.used.contains(name);
+    let is_left = |name: &StoreName| name.book().is_none() && name.parts().is_none() && !seen.used.contains(name);
     prop_assert_eq!(left, seen.there().into_iter().filter(is_left).collect());
     Ok(())
 }
@@ -58,12 +55,10 @@ fn the_tables_of_the_bytes_at_any_moment_are_those_that_are_there() {
         1000,
         (1..=2u32, any::<bool>(), steps(), any::<Index>(), 1..20usize),
         |(shards, keeps, steps, front, parts)| {
-            let mut living = Living::new(Shards::new(shards).unwrap(), keeps, true);
-            // A queue whose store keeps its own journal goes over to no other name.
-            let steps = steps.iter().filter(|(_, step)| !matches!(step, Step::GoOver));
-            steps.for_each(|(name, step)| living.step(name, step));
-            compare(&living, living.lines.len(), parts)?;
-            compare(&living, front.index(living.lines.len() + 1), parts)
+            let mut living = Living::new(Shards::new(shards).unwrap(), keeps);
+            steps.iter().for_each(|(name, step)| living.step(name, step));
+            compare(&living, living.seen.len(), parts)?;
+            compare(&living, front.index(living.seen.len() + 1), parts)
         },
     );
 }
@@ -71,16 +66,16 @@ fn the_tables_of_the_bytes_at_any_moment_are_those_that_are_there() {
 #[test]
 fn a_queue_that_is_gone_stays_so_while_several_earlier_books_go() {
     use Step::{BeginBook, Create, EndBook, Remove, RemoveLeftOver, Wait};
-    let mut living = Living::new(Shards::ONE, false, true);
+    let mut living = Living::new(Shards::ONE, false);
     let steps = [Create, BeginBook, Remove, RemoveLeftOver, Wait(60_000), BeginBook, EndBook];
     steps.iter().for_each(|step| living.step("a", step));
-    (0..=living.lines.len()).for_each(|front| compare(&living, front, 3).unwrap());
+    (0..=living.seen.len()).for_each(|front| compare(&living, front, 3).unwrap());
 }
 
 #[test]
 fn the_tables_of_the_bytes_know_queues_and_books_whose_names_were_used_before() {
     use Step::{BeginBook, Create, Delay, EndBook, Receive, Remove, RemoveLeftOver, Send, Tag, Take, Wait};
-    let mut living = Living::new(Shards::ONE, false, true);
+    let mut living = Living::new(Shards::ONE, false);
     let queue_of = |living: &Living, name| living.queues.find(&QueueName::parse(name).unwrap()).unwrap();
     for (turn, name) in (1..).zip(["a", "b.fifo", "c", "a"]) {
         let own = [Create, Send, Delay, Receive(3, 30), Take(true), BeginBook, Tag(1), EndBook];
@@ -91,7 +86,7 @@ fn the_tables_of_the_bytes_know_queues_and_books_whose_names_were_used_before() 
     }
     // The first book of the two whose names come by turns is there, for the third time.
     assert_eq!(living.queues.books().current(0), Some(1));
-    (0..=living.lines.len()).for_each(|front| compare(&living, front, 3).unwrap());
+    (0..=living.seen.len()).for_each(|front| compare(&living, front, 3).unwrap());
 }
 
 /// What attempt `x` was given, as a store tells it whose client 3 has asked last by the request 7, which handed out two messages
