@@ -30,7 +30,7 @@ use crate::clock::Moment;
 use crate::errors::SqsError;
 use crate::handles::Receipt;
 use crate::limits::{ID_BYTES, MESSAGE_BYTES, QUEUE_BYTES, STORED_ID_BYTES, STORED_MESSAGE_BYTES, STORED_QUEUE_BYTES};
-use crate::lines::{read_receipt_of, StoreMessage, StoreReply};
+use crate::lines::{read_receipt, StoreMessage, StoreReply};
 use crate::messages::{has_parts, own_id, Envelope, EnvelopeHead};
 use crate::move_tasks::{MoveTask, Status};
 use crate::redrive::RedrivePolicy;
@@ -380,7 +380,7 @@ impl State {
 
     fn hand(&mut self, given: StoreMessage, receiving: &Receiving<'_>) -> Result<(Handed, Option<Fate>), SqsError> {
         let moment = receiving.moment;
-        let receipt = read_receipt_of(&given.receipt, self.stored_as()).ok_or_else(misfit)?;
+        let receipt = read_receipt(&given.receipt, self.stored_as()).ok_or_else(misfit)?;
         self.hide(receipt.sequence, receiving.until);
         let message = self.messages.get_mut(receipt.sequence).ok_or_else(misfit)?;
         let first = message.last.map_or(moment, |last| last.first);
