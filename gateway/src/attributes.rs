@@ -131,8 +131,7 @@ fn whole(text: &str) -> Option<u64> {
 }
 
 /// Attributes that a client wants to set, each known and with a good value.
-#[derive(Clone, Debug, PartialEq, Eq, Serialize, Deserialize)]
-#[serde(transparent)]
+#[derive(Clone, Debug, PartialEq, Eq)]
 pub struct GivenAttributes(BTreeMap<String, String>);
 
 impl GivenAttributes {

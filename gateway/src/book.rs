@@ -8,7 +8,7 @@ use std::time::Duration;
 
 use crate::errors::SqsError;
 use crate::queues::ask::{Ask, StoreName};
-use crate::queues::book::{entries_of_facts, Entry, ProgramEntry, Removal};
+use crate::queues::book::{Entry, ProgramEntry, Removal};
 use crate::queues::Queue;
 use crate::store::{Operation, Store};
 
@@ -84,15 +84,8 @@ fn is_worth_beginning_anew(store: &Store, place: usize) -> bool {
 /// What all takes of memory that a fresh book is to say, in bytes.
 fn size_of_all(store: &Store, place: usize) -> u64 {
     let of_removals = removals_of(store, place).map(|removal| Entry::Removed(removal).size());
-    let of_facts = older_facts(store, place).map(|entry| entry.size());
     let of_queues = of_place(store, place).map(|queue| queue.state().size_of_entries());
-    of_removals.chain(of_facts).chain(of_queues).sum()
-}
-
-/// What an older journal had beside the store.
-fn older_facts(store: &Store, place: usize) -> impl Iterator<Item = Entry> + '_ {
-    let queues = of_place(store, place).flat_map(|queue| [queue.delays(), Some(queue)]).flatten();
-    queues.flat_map(|queue| entries_of_facts(queue.mark.0, queue.state().older_facts()))
+    of_removals.chain(of_queues).sum()
 }
 
 fn removals_of(store: &Store, place: usize) -> impl Iterator<Item = Removal> + '_ {
@@ -157,7 +150,7 @@ async fn say_all(store: &Store, place: usize) -> Result<(), SqsError> {
             for answer in answers.await {
                 match answer {
                     Err(error) if is_for_now(&error) => return Err(error),
-                    // It was removed meanwhile, or an older journal has what is too long for a book.
+                    // It was removed meanwhile.
                     _ => {}
                 }
             }
@@ -172,7 +165,7 @@ async fn say_program(store: &Store, place: usize) -> Result<(), SqsError> {
     let attempts = of_place(store, place).flat_map(|queue| queue.state().entries_of_attempts());
     let jumps = store.queues().jumps().all().into_iter().map(|(moment, uncounted)| Entry::Jump(moment, uncounted));
     let program = Entry::Program(program_entry(store, place));
-    let entries = attempts.chain(jumps).chain(older_facts(store, place)).chain([program]);
+    let entries = attempts.chain(jumps).chain([program]);
     store.perform_nameless(place, entries.map(Operation::Say).collect()).await
 }
 
@@ -225,7 +218,7 @@ mod tests {
 
     #[test]
     fn what_counts_of_queues_is_counted_as_it_is_written() {
-        for value in ["", "v", "\"", "\\", "\n", "\u{1}", "\u{7f}", "é", "\u{fffe}", "\u{10400}"] {
+        for value in ["", "v", "\"", "\\", "\n", "\u{1}", "\u{7f}", "é", "\u{10400}"] {
             let tags: BTreeMap<_, _> = (0..50).map(|place| (format!("{place}{value}"), value.repeat(256))).collect();
             let name = QueueName::parse("q").unwrap();
             let entry = QueueEntry { tags, ..QueueEntry::plain(StoreName(1), name, u64::MAX) };

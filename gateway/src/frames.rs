@@ -94,7 +94,7 @@ fn put_receipt(out: &mut Vec<u8>, fields: &AskFields<'_>) -> Result<(), Malforme
 /// How many bytes a send has, but for numbers that all have: what can be longer in one than in another.
 pub fn length_of(ask: &Ask) -> usize {
     let Ask::Send { group, dedup, envelope, .. } = ask else { return 0 };
-    group.as_str().len() + dedup.as_str().len() + envelope.stored().len()
+    group.as_str().len() + dedup.as_str().len() + envelope.text().len()
 }
 
 /// The bytes of a request, of an ask's bytes.
@@ -240,8 +240,8 @@ mod tests {
         let received = bytes_of(&Ask::Receive { size: 2, visibility: 9, attempt: None, most: None, reach });
         assert_eq!(received, [&[3][..], name, &[2, 0, 0, 0, 1], &visibility].concat());
         let (group, dedup) = (GroupId::parse("g").unwrap(), DedupId::parse("d").unwrap());
-        let envelope = Envelope::Whole("body".into());
-        let body = envelope.stored().to_string();
+        let envelope = Envelope::from("body".to_string());
+        let body = envelope.text().to_string();
         let sent = bytes_of(&Ask::Send { group, dedup, envelope, cause: Cause::Client });
         let length = (body.len() as u32).to_le_bytes();
         assert_eq!(sent, [&[2][..], name, b"\x01\0\0\0g", b"\x01\x01\0\0\0d", &length, body.as_bytes()].concat());

@@ -61,7 +61,7 @@ impl<'a> AskFields<'a> {
             Ask::Send { group, dedup, envelope, .. } => AskFields {
                 group: Some(group.as_str().into()),
                 dedup: Some(dedup.as_str().into()),
-                body: Some(envelope.stored().into()),
+                body: Some(envelope.text().into()),
                 ..AskFields::new(AskKind::Send, queue)
             },
             Ask::Receive { size, visibility, .. } => {

@@ -197,8 +197,8 @@ pub fn size_of_attributes(attributes: &MessageAttributes) -> usize {
 /// The metadata of a message: all beside its body and its place, and in a FIFO queue beside its group.
 #[derive(Clone, Debug, Default, PartialEq, Eq, Serialize, Deserialize)]
 pub struct Metadata {
-    /// The MessageId, where it isn't made of the message's place: of one that was moved or delayed, or that an earlier
-    /// version sent. It stands first, where `own_id` finds it.
+    /// The MessageId, where it isn't made of the message's place: of one that was moved or delayed. It stands first, where `own_id`
+    /// finds it.
     #[serde(default, skip_serializing_if = "Option::is_none")]
     pub id: Option<Uuid>,
     /// Of a copy: which message it is one of. It stands first, or second behind the id, where `EnvelopeHead` looks.
@@ -235,47 +235,31 @@ impl Metadata {
     }
 }
 
-/// The head of an envelope that says that the rest of it stands elsewhere.
-#[derive(Serialize, Deserialize)]
-struct Elsewhere {
-    #[serde(default, skip_serializing_if = "Option::is_none")]
-    id: Option<Uuid>,
-    elsewhere: bool,
-}
-
-/// A message as it goes into the store in place of its body.
+/// A message as it goes into the store in place of its body: the metadata as one line of JSON, and behind it the body. What is too
+/// long for the store is put in parts before it is sent, and a line goes in its place.
 #[derive(Clone, Debug, PartialEq, Eq)]
-pub enum Envelope {
-    /// The metadata as one line of JSON, and behind it the body.
-    Whole(String),
-    /// The store takes no text so long. Before it is sent, `whole` is put in parts. In a journal up to version 5 the store has
-    /// `stub`, and the gateway and its journal have `whole`.
-    Split { stub: String, whole: String },
+pub struct Envelope(String);
+
+impl From<String> for Envelope {
+    fn from(text: String) -> Envelope {
+        Envelope(text)
+    }
 }
 
 impl Envelope {
-    /// The envelope of a message. It is split where it is longer than the store takes.
+    /// The envelope of a message.
     pub fn new(metadata: &Metadata, body: &Body) -> Result<Envelope, serde_json::Error> {
-        let mut whole = serde_json::to_string(metadata)?;
-        whole.reserve_exact(1 + body.as_str().len());
-        whole.push('\n');
-        whole.push_str(body.as_str());
-        Envelope::of_whole(metadata.id, whole)
+        let mut text = serde_json::to_string(metadata)?;
+        text.reserve_exact(1 + body.as_str().len());
+        text.push('\n');
+        text.push_str(body.as_str());
+        Ok(Envelope(text))
     }
 
-    /// The envelope by its whole text, and the id that stands in it.
-    pub fn of_whole(id: Option<Uuid>, whole: String) -> Result<Envelope, serde_json::Error> {
-        if whole.len() <= STORE_LIMIT {
-            return Ok(Envelope::Whole(whole));
-        }
-        let stub = serde_json::to_string(&Elsewhere { id, elsewhere: true })?;
-        Ok(Envelope::Split { stub, whole })
-    }
-
-    /// Has what goes into the store say that it was sent at this moment. Before what it says of that no client's text stands.
+    /// Has it say that it was sent at this moment. Before what it says of that no client's text stands.
     pub fn stamp(&mut self, moment: Moment) {
         const NAME: &str = "\"sent\":";
-        let Envelope::Whole(text) = self else { return };
+        let text = &mut self.0;
         let Some(start) = text.find(NAME).map(|place| place + NAME.len()) else { return };
         let digits = text[start..].bytes().take_while(u8::is_ascii_digit).count();
         if text[start..start + digits].parse() != Ok(moment) {
@@ -283,27 +267,22 @@ impl Envelope {
         }
     }
 
-    /// What the store has.
-    pub fn stored(&self) -> &str {
-        match self {
-            Envelope::Whole(whole) => whole,
-            Envelope::Split { stub, .. } => stub,
-        }
+    pub fn text(&self) -> &str {
+        &self.0
     }
 
-    /// All of it.
-    pub fn whole(&self) -> &str {
-        match self {
-            Envelope::Whole(whole) | Envelope::Split { whole, .. } => whole,
-        }
+    pub fn into_text(self) -> String {
+        self.0
     }
 
-    /// How many bytes it has, in the store and beside it.
+    /// Whether the store takes no text so long.
+    pub fn is_too_long(&self) -> bool {
+        self.0.len() > STORE_LIMIT
+    }
+
+    /// How many bytes it has.
     pub fn bytes(&self) -> u64 {
-        match self {
-            Envelope::Whole(whole) => whole.len() as u64,
-            Envelope::Split { stub, whole } => (stub.len() + whole.len()) as u64,
-        }
+        self.0.len() as u64
     }
 }
 
@@ -327,8 +306,7 @@ pub struct EnvelopeHead {
     pub id: Option<Uuid>,
     #[serde(default, skip_serializing_if = "Option::is_none")]
     pub of: Option<Origin>,
-    #[serde(default, skip_serializing_if = "Option::is_none")]
-    pub sent: Option<Moment>,
+    pub sent: Moment,
     #[serde(default, skip_serializing_if = "Option::is_none")]
     pub due: Option<Moment>,
     /// Of a dead letter.
@@ -341,7 +319,7 @@ impl EnvelopeHead {
     pub fn of(envelope: &str) -> Option<EnvelopeHead> {
         let line = envelope.split('\n').next()?;
         match plain_moment(line) {
-            Some(sent) => Some(EnvelopeHead { sent: Some(sent), ..EnvelopeHead::default() }),
+            Some(sent) => Some(EnvelopeHead { sent, ..EnvelopeHead::default() }),
             None => serde_json::from_str(line).ok(),
         }
     }
@@ -358,14 +336,14 @@ impl EnvelopeHead {
 
     /// The same where the parts are there already.
     pub fn as_line(&self) -> Result<Envelope, serde_json::Error> {
-        Ok(Envelope::Whole(serde_json::to_string(self)?))
+        Ok(Envelope(serde_json::to_string(self)?))
     }
 
     /// The envelope that stands in parts, with what this head says. None if it is none.
     pub fn over(&self, whole: &str) -> Option<String> {
         let (metadata, body) = read_envelope(whole)?;
-        let EnvelopeHead { id, of, due, source, .. } = self.clone();
-        let metadata = Metadata { id, of, sent: self.sent?, due, source, ..metadata };
+        let EnvelopeHead { id, of, sent, due, source, .. } = self.clone();
+        let metadata = Metadata { id, of, sent, due, source, ..metadata };
         Some(serde_json::to_string(&metadata).ok()? + "\n" + body)
     }
 }
@@ -417,20 +395,12 @@ pub fn own_id(envelope: &str) -> Option<Uuid> {
     envelope.strip_prefix("{\"id\":\"")?.get(..LENGTH)?.parse().ok()
 }
 
-/// Which message an envelope is a copy of, if it is one. Takes the same time for all others.
-pub fn origin_in(envelope: &str) -> Option<Origin> {
-    // The id, if there is one, and the origin stand before all else.
-    let may_have = envelope.starts_with("{\"id\"") || envelope.starts_with("{\"of\"") || has_parts(envelope);
-    may_have.then(|| EnvelopeHead::of(envelope)?.of).flatten()
-}
-
 /// The MessageId of the message with this sequence number in the queue of this mark, where none stands in its envelope.
 ///
 /// No two messages have the same two numbers. A mark is 64 random bits, which each creation of a queue draws anew, also
-/// under the name of one that was removed. In a queue numbers begin at 1 and none is given twice, also where the queue
-/// goes over to another name in the store, which counts from 1 again (`Before::base`). The store answers a repeat of a
-/// send with the first one's number, so the repeat is told the first one's id, and nobody has to keep ids. (A journal
-/// that was put back from a copy gives the numbers of what the copy lacks once more, and the ids with them.)
+/// under the name of one that was removed. In a queue numbers begin at 1 and none is given twice. The store answers a
+/// repeat of a send with the first one's number, so the repeat is told the first one's id, and nobody has to keep ids. (A
+/// journal that was put back from a copy gives the numbers of what the copy lacks once more, and the ids with them.)
 ///
 /// The digest gives it the look of a random id. No client chooses what goes into it, and it hides nothing that a
 /// receipt handle doesn't say. So it is MD5, the quickest one at hand.
@@ -552,12 +522,9 @@ mod tests {
         for id in [None, Some(Uuid::from_u128(7))] {
             let metadata = Metadata { id, ..metadata.clone() };
             let envelope = Envelope::new(&metadata, &Body::parse("one\ntwo").unwrap()).unwrap();
-            assert_eq!(read_envelope(envelope.stored()), Some((metadata.clone(), "one\ntwo")));
-            assert_eq!(
-                EnvelopeHead::of(envelope.stored()),
-                Some(EnvelopeHead { id, sent: Some(metadata.sent), ..no_head() })
-            );
-            assert_eq!(own_id(envelope.stored()), id);
+            assert_eq!(read_envelope(envelope.text()), Some((metadata.clone(), "one\ntwo")));
+            let head = EnvelopeHead { id, sent: metadata.sent, ..EnvelopeHead::default() };
+            assert_eq!((EnvelopeHead::of(envelope.text()), own_id(envelope.text())), (Some(head), id));
         }
         assert_eq!(read_envelope("hello"), None);
     }
@@ -571,50 +538,40 @@ mod tests {
             for sent in [own.sent, 9, 1_700_000_000_001] {
                 let mut envelope = Envelope::new(&own, &body).unwrap();
                 envelope.stamp(sent);
-                let read = read_envelope(envelope.stored());
+                let read = read_envelope(envelope.text());
                 assert_eq!(read, Some((Metadata { sent, ..own.clone() }, body.as_str())));
-                let mut line = EnvelopeHead::of(envelope.whole()).unwrap().in_place(12, 300_000).unwrap();
+                let mut line = EnvelopeHead::of(envelope.text()).unwrap().in_place(12, 300_000).unwrap();
                 line.stamp(8);
-                assert_eq!(EnvelopeHead::of(line.stored()).unwrap().sent, Some(8));
+                assert_eq!(EnvelopeHead::of(line.text()).unwrap().sent, 8);
             }
         }
     }
 
     #[test]
-    fn an_envelope_above_the_stores_limit_is_split() {
-        let body = Body::parse(&"x".repeat(STORE_LIMIT)).unwrap();
-        for id in [None, Some(Uuid::from_u128(7))] {
-            let envelope = Envelope::new(&Metadata { id, ..metadata() }, &body).unwrap();
-            let Envelope::Split { stub, whole } = &envelope else { panic!("{} bytes", envelope.bytes()) };
-            assert_eq!((read_envelope(whole).unwrap().1, read_envelope(stub)), (body.as_str(), None));
-            assert_eq!((own_id(stub), own_id(whole)), (id, id));
-            assert_eq!(EnvelopeHead::of(stub), Some(EnvelopeHead { id, ..no_head() }));
-        }
-    }
-
-    fn no_head() -> EnvelopeHead {
-        EnvelopeHead { parts: None, bytes: None, id: None, of: None, sent: None, due: None, source: None }
+    fn an_envelope_above_the_stores_limit_is_too_long() {
+        let of = |length: usize| Envelope::from("x".repeat(length));
+        assert!(!of(STORE_LIMIT).is_too_long() && of(STORE_LIMIT + 1).is_too_long());
     }
 
     #[test]
     fn a_line_stands_for_an_envelope_in_parts_and_says_what_a_move_changes() {
         let body = Body::parse(&"ü\n".repeat(STORE_LIMIT)).unwrap();
         let own = Metadata { id: Some(Uuid::from_u128(7)), ..metadata() };
-        let whole = Envelope::new(&own, &body).unwrap().whole().to_string();
+        let whole = Envelope::new(&own, &body).unwrap().into_text();
         let head = EnvelopeHead::of(&whole).unwrap();
         let line = head.in_place(12, whole.len()).unwrap();
-        assert_eq!((line.whole().len() < 200, read_envelope(line.stored())), (true, None));
-        assert!(has_parts(line.stored()) && !has_parts(&whole) && EnvelopeHead::of_parts(&whole).is_none());
-        let read = EnvelopeHead::of_parts(line.stored()).unwrap();
+        assert_eq!((line.text().len() < 200, read_envelope(line.text())), (true, None));
+        assert!(has_parts(line.text()) && !has_parts(&whole) && EnvelopeHead::of_parts(&whole).is_none());
+        let read = EnvelopeHead::of_parts(line.text()).unwrap();
         assert_eq!((read.parts, read.bytes), (Some(12), Some(whole.len() as u64)));
         assert_eq!(read.over(&whole).unwrap(), whole);
-        assert_eq!((own_id(line.stored()), origin_in(line.stored())), (own.id, None));
+        assert_eq!(own_id(line.text()), own.id);
         // A copy of it names the same parts.
         let (of, source) = (Some(Origin { mark: 1, sequence: 2 }), QueueName::parse("q.fifo"));
-        let copy = EnvelopeHead { id: None, of, sent: Some(9), source: source.clone(), ..read };
+        let copy = EnvelopeHead { id: None, of, sent: 9, source: source.clone(), ..read };
         let line = copy.as_line().unwrap();
-        assert_eq!((own_id(line.stored()), origin_in(line.stored())), (None, of));
-        let moved = EnvelopeHead::of_parts(line.stored()).unwrap().over(&whole).unwrap();
+        assert_eq!(own_id(line.text()), None);
+        let moved = EnvelopeHead::of_parts(line.text()).unwrap().over(&whole).unwrap();
         let (metadata, text) = read_envelope(&moved).unwrap();
         assert_eq!((metadata, text), (Metadata { id: None, of, sent: 9, source, ..own }, body.as_str()));
         assert_eq!(read.over("no envelope"), None);

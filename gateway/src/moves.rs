@@ -18,7 +18,7 @@ use uuid::Uuid;
 
 use crate::errors::SqsError;
 use crate::handles::Receipt;
-use crate::messages::{message_id, Envelope, EnvelopeHead};
+use crate::messages::{message_id, EnvelopeHead};
 use crate::parts;
 use crate::queues::ask::{Ask, Cause, Changer, Fate, Handed, PartsCause};
 use crate::queues::Queue;
@@ -283,16 +283,15 @@ fn copy_of(store: &Store, queue: &Queue, target: &Queue, handed: &Handed, kind: 
     let head = EnvelopeHead {
         id: (!is_new).then(id),
         of: Some(origin),
-        sent: if keeps_age { head.sent } else { Some(store.clock().now()) },
+        sent: if keeps_age { head.sent } else { store.clock().now() },
         due: None,
         source: (kind == MoveKind::DeadLetter).then(|| queue.name.clone()),
         ..head
     };
     let envelope = match head.parts {
-        Some(_) => head.as_line(),
-        None => Envelope::of_whole(head.id, head.over(&handed.envelope).ok_or_else(no_envelope)?),
+        Some(_) => head.as_line().map_err(|_| no_envelope())?,
+        None => head.over(&handed.envelope).ok_or_else(no_envelope)?.into(),
     };
-    let envelope = envelope.map_err(|_| no_envelope())?;
     let group = GroupId::parse(&handed.group)?;
     let dedup = match store.secret_of(target) {
         // The store remembers for a while that there was this copy.

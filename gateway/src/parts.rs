@@ -11,7 +11,7 @@ use std::time::Duration;
 use crate::budget::Share;
 use crate::delays;
 use crate::errors::SqsError;
-use crate::messages::{parts_of, Envelope, EnvelopeHead};
+use crate::messages::{parts_of, EnvelopeHead};
 use crate::queues::ask::{Ask, Handed, Outcome, PartsAsk, PartsCause};
 use crate::queues::Queue;
 use crate::store::{spawn_wanted, Answer, Operation, Store};
@@ -107,8 +107,11 @@ pub async fn put(
     ask: Ask,
     parts_cause: PartsCause,
 ) -> Result<(Ask, Option<u64>), SqsError> {
-    let Ask::Send { group, dedup, envelope: Envelope::Split { whole, .. }, cause } = ask else {
-        return Ok((ask, None));
+    let (group, dedup, whole, cause) = match ask {
+        Ask::Send { group, dedup, envelope, cause } if envelope.is_too_long() => {
+            (group, dedup, envelope.into_text(), cause)
+        }
+        other => return Ok((other, None)),
     };
     if parts_cause == PartsCause::Client {
         store.test_room_to_send(whole.len() as u64)?;

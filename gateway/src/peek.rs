@@ -236,8 +236,8 @@ impl Page {
         let Peeked { visibility, sequence, group, count, first, .. } = peeked;
         let first = first.unwrap_or(0);
         self.bytes += envelope.len();
-        let receipt = Receipt { sequence, ordinal: 0 };
-        let handed = Handed { receipt, count, moment: 0, first, group, envelope };
+        let receipt = Receipt { sequence, ordinal: count };
+        let handed = Handed { receipt, moment: 0, first, group, envelope };
         let mut message = show(queue, &handed, &Shown::all(), (owner, HANDLE.into()))?;
         if wanted.shows_in_flight {
             message.attributes.push(("IsVisible", (visibility != Visibility::InFlight).to_string()));

@@ -101,8 +101,7 @@ impl Policy {
         }
     }
 
-    /// The policy that a queue has; the empty text is none. One of an older journal may have any text: what is no JSON
-    /// object is `InvalidAttributeValue`.
+    /// The policy that a queue has; the empty text is none. What is no JSON object is `InvalidAttributeValue`.
     pub fn of_queue(text: &str) -> Result<Policy, SqsError> {
         if text.is_empty() {
             return Ok(Policy::default());

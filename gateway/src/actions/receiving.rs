@@ -142,7 +142,7 @@ fn value_of(
     Some(match attribute {
         SystemAttribute::SenderId => metadata.sender.as_deref().unwrap_or(SENDER).into(),
         SystemAttribute::SentTimestamp => metadata.sent.to_string(),
-        SystemAttribute::ApproximateReceiveCount => handed.count.to_string(),
+        SystemAttribute::ApproximateReceiveCount => handed.receipt.ordinal.to_string(),
         SystemAttribute::ApproximateFirstReceiveTimestamp => handed.first.to_string(),
         SystemAttribute::DeadLetterQueueSourceArn => owner.arn(metadata.source.as_ref()?.as_str()),
         SystemAttribute::SequenceNumber => sequence_number(kind, handed.receipt.sequence)?,

@@ -1,6 +1,6 @@
 //! What is asked of the store, and what comes of it.
 
-use std::collections::{BTreeMap, HashSet};
+use std::collections::BTreeMap;
 use std::sync::Arc;
 
 use serde::{Deserialize, Serialize};
@@ -60,11 +60,6 @@ impl StoreName {
     /// The name of the queue of which it has what is delayed, if it has that of one.
     pub fn main(self) -> Option<StoreName> {
         (self.0 & (PARTS | DELAYS) == DELAYS).then_some(StoreName(self.0 & !DELAYS))
-    }
-
-    /// Whether it went with one of these names: what is delayed goes with its queue.
-    pub fn is_among(self, removed: &HashSet<StoreName>) -> bool {
-        removed.contains(&self) || self.main().is_some_and(|main| removed.contains(&main))
     }
 
     /// The name as the store's rules want it.
@@ -211,13 +206,13 @@ pub enum PartsCause {
 impl Ask {
     /// Whether this sends an envelope that has to be put in parts before.
     pub fn is_too_long(&self) -> bool {
-        matches!(self, Ask::Send { envelope: Envelope::Split { .. }, .. })
+        matches!(self, Ask::Send { envelope, .. } if envelope.is_too_long())
     }
 
     /// The id that a client's send to a FIFO queue would have in the store if `DeduplicationScope` were the other one.
     pub fn id_of_other_scope(&self) -> Option<DedupId> {
         let Ask::Send { group, dedup, envelope, cause: Cause::Client } = self else { return None };
-        let (metadata, _) = read_envelope(envelope.whole())?;
+        let (metadata, _) = read_envelope(envelope.text())?;
         let given = metadata.dedup?;
         [given.within(group), given].into_iter().find(|id| id != dedup)
     }
@@ -256,8 +251,6 @@ pub enum Reach {
     Due(Vec<u64>),
     /// The gateway is handed these, and deletes or moves them.
     Own(Vec<u64>),
-    /// The gateway was handed what it perhaps left, in a journal up to version 5. That counts as no handing.
-    Uncounted,
 }
 
 impl Reach {
@@ -265,7 +258,7 @@ impl Reach {
     pub fn named(&self) -> Option<&[u64]> {
         match self {
             Reach::Due(named) | Reach::Own(named) => Some(named),
-            Reach::All | Reach::Uncounted => None,
+            Reach::All => None,
         }
     }
 
@@ -291,54 +284,32 @@ pub enum Cause {
     Client,
     /// It is moved here, and this is the message that it copies.
     Move(Origin),
-    /// It is delayed, and a record of an older journal has it, by this id.
-    Older(Uuid),
 }
 
-/// A delayed message of a standard queue, as a journal up to version 6 has it in a record of its own.
-#[derive(Clone, Debug, PartialEq, Eq, Serialize, Deserialize)]
-pub struct Delayed {
-    pub id: Uuid,
-    pub due: Moment,
-    /// What stands for the client's call, where that can be told from others.
-    #[serde(default, skip_serializing_if = "Option::is_none")]
-    pub call: Option<DedupId>,
-    /// Its whole envelope.
-    #[serde(rename = "form")]
-    pub envelope: String,
-}
-
-/// A change of what is said of a queue. Records of journals up to version 7 have those with names.
-#[derive(Clone, Debug, PartialEq, Eq, Serialize, Deserialize)]
-#[serde(rename_all = "lowercase")]
+/// A change of what is said of a queue.
+#[derive(Clone, Debug, PartialEq, Eq)]
 pub enum TableChange {
     /// The store has its name, and from now on it is there.
-    #[serde(skip)]
     Created,
     Attributes(GivenAttributes),
     Tag(BTreeMap<String, String>),
     Untag(Vec<String>),
     /// All messages up to this one are being deleted. Delayed messages of a standard queue go with this.
     Purging(u64),
-    /// They are deleted. In journals up to version 5 nothing stands before this, and delayed messages go with it.
+    /// They are deleted.
     Purged,
     /// How a task stands that moves messages.
     Task(MoveTask),
-    #[serde(skip)]
     Removed,
     /// Nothing is new, and it is said once more: how the queue stands, or this task of it.
-    #[serde(skip)]
     Again(Option<Uuid>),
-    /// A message was sent with a delay, in journals up to version 6. No book says it.
-    Delayed(Arc<Delayed>),
 }
 
 /// A message as it is handed out.
 #[derive(Clone, Debug)]
 pub struct Handed {
+    /// Its ordinal says how often it was handed out, this time among them.
     pub receipt: Receipt,
-    /// How often it was handed out, this time among them.
-    pub count: u64,
     /// When it was handed out, and when for the first time.
     pub moment: Moment,
     pub first: Moment,

@@ -9,7 +9,6 @@ use serde::{Deserialize, Serialize};
 use uuid::Uuid;
 
 use super::ask::StoreName;
-use super::OlderFact;
 use crate::attributes::QueueAttributes;
 use crate::clock::Moment;
 use crate::limits::{MESSAGE_BYTES, STORED_MESSAGE_BYTES};
@@ -32,8 +31,6 @@ pub enum Entry {
     Asked(AttemptRequest),
     /// Where programs do so: of the time before a start at this moment so many milliseconds make no message older.
     Jump(Moment, u64),
-    /// Where programs do so: what a journal of an earlier version had beside the store of messages of the queue of this mark.
-    Older(u64, Vec<OlderFact>),
     /// Which one of its program's books this is, from 1: their names are used again, and don't tell their order. Each says so
     /// before the next one is begun, so that the last is one that doesn't.
     Book(u64),
@@ -116,27 +113,6 @@ fn is_zero(number: &u64) -> bool {
     *number == 0
 }
 
-/// Facts go into one entry up to so many bytes, and one alone may have more.
-const BYTES_OF_FACTS: usize = 100_000;
-
-/// Entries that say facts of a queue of this mark.
-pub fn entries_of_facts(mark: u64, facts: Vec<OlderFact>) -> Vec<Entry> {
-    let (mut entries, mut some, mut length) = (Vec::new(), Vec::new(), 0);
-    for fact in facts {
-        let own = serde_json::to_string(&fact).map_or(0, |text| text.len());
-        if length + own > BYTES_OF_FACTS && !some.is_empty() {
-            entries.push(Entry::Older(mark, std::mem::take(&mut some)));
-            length = 0;
-        }
-        length += own;
-        some.push(fact);
-    }
-    if !some.is_empty() {
-        entries.push(Entry::Older(mark, some));
-    }
-    entries
-}
-
 impl QueueEntry {
     /// That of a queue of which nothing is said.
     pub fn plain(store: StoreName, name: QueueName, mark: u64) -> QueueEntry {
@@ -157,22 +133,12 @@ impl QueueEntry {
         let (rescoped, purged, purging) = (None, None, None);
         QueueEntry { store, name, mark, base: 0, attributes, tags, created, modified, rescoped, purged, purging }
     }
-
-    /// Whether a purge begins with this entry, where the one before it was that. In journals up to version 5 nothing says that
-    /// one begins, and it is over at once.
-    pub fn purges(&self, before: &QueueEntry) -> bool {
-        match (before.purging, self.purging) {
-            (None, None) => before.purged != self.purged,
-            (earlier, purging) => purging.is_some() && purging != earlier,
-        }
-    }
 }
 
 impl Entry {
-    /// What stands in a book. Older journals have tags with the two characters that JSON leaves as they are and no body may
-    /// have.
+    /// What stands in a book.
     pub fn text(&self) -> serde_json::Result<String> {
-        Ok(serde_json::to_string(self)?.replace('\u{fffe}', "\\ufffe").replace('\u{ffff}', "\\uffff"))
+        serde_json::to_string(self)
     }
 
     /// What it takes of memory in a book, in bytes.

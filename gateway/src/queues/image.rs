@@ -14,7 +14,7 @@ use super::ask::StoreName;
 use super::book::{size_of_text, AttemptEntry, AttemptRequest, Entry};
 use super::groups::Group;
 use super::shards::Shard;
-use super::{OlderFact, Queue, Queues};
+use super::{Queue, Queues};
 use crate::clock::Moment;
 use crate::messages::EnvelopeHead;
 use crate::move_tasks::MoveTask;
@@ -83,8 +83,6 @@ pub(super) struct StoredQueue {
     pub(super) attempts: Vec<AttemptEntry>,
     /// What attempts were given by requests of which no book says that: their ids, and the handings of messages.
     pub(super) untold: Vec<(AttemptId, Vec<(u64, u64)>)>,
-    /// What an older journal had beside the store, in that order.
-    pub(super) older: Vec<OlderFact>,
 }
 
 pub(super) struct StoredMessage {
@@ -109,29 +107,16 @@ pub(super) enum StoredHead {
 impl StoredHead {
     fn of(head: EnvelopeHead) -> StoredHead {
         match head {
-            EnvelopeHead {
-                parts: None,
-                bytes: None,
-                id: None,
-                of: None,
-                sent: Some(sent),
-                due: None,
-                source: None,
-            } => StoredHead::Plain(sent),
+            EnvelopeHead { parts: None, bytes: None, id: None, of: None, sent, due: None, source: None } => {
+                StoredHead::Plain(sent)
+            }
             other => StoredHead::Other(other.into()),
-        }
-    }
-
-    fn has_moment(&self) -> bool {
-        match self {
-            StoredHead::Plain(_) => true,
-            StoredHead::Other(head) => head.sent.is_some(),
         }
     }
 
     pub(super) fn into_head(self) -> EnvelopeHead {
         match self {
-            StoredHead::Plain(sent) => EnvelopeHead { sent: Some(sent), ..EnvelopeHead::default() },
+            StoredHead::Plain(sent) => EnvelopeHead { sent, ..EnvelopeHead::default() },
             StoredHead::Other(head) => *head,
         }
     }
@@ -150,25 +135,6 @@ impl StoredName {
     /// When it went; nothing where it is there.
     fn gone(&self) -> Option<Moment> {
         self.queue.is_none().then(|| self.removed.unwrap_or(0))
-    }
-}
-
-impl StoredQueue {
-    /// Puts lines that a book says in the place of what the store has, which counts messages from the one behind `base`. False
-    /// if one is missing.
-    fn put_lines(&mut self, base: u64) -> bool {
-        let of_line = |fact: &OlderFact| match fact {
-            OlderFact::Line(sequence, line) => Some((*sequence, line.clone())),
-            _ => None,
-        };
-        let lines: HashMap<_, _> = self.older.iter().filter_map(of_line).collect();
-        for message in &mut self.messages {
-            if let Some(line) = lines.get(&(base + message.sequence)) {
-                message.head = StoredHead::of(EnvelopeHead::of(line).unwrap_or_default());
-                message.text = message.text.take().map(|(group, _)| (group, line.as_str().into()));
-            }
-        }
-        self.messages.iter().all(|message| message.head.has_moment())
     }
 }
 
@@ -270,7 +236,6 @@ impl Image {
         if store.book().is_some() {
             queue.entries.push(body.into());
         } else if store.parts().is_none() {
-            // What an older journal has beside the store says no moment.
             let head = EnvelopeHead::of(body).ok_or_else(|| no_envelope(store))?;
             queue.messages.push(StoredMessage {
                 sequence,
@@ -304,31 +269,20 @@ impl Queues {
         self.names.find(place, names.map(|(name, stored)| (*name, stored.creations, stored.gone())));
         let living = image.names.into_iter().filter_map(|(name, stored)| Some((name, stored.queue?)));
         let (books, mut living): (BTreeMap<_, _>, BTreeMap<_, _>) = living.partition(|(name, _)| name.book().is_some());
-        let Told { by_mark, mut attempts, mut asked, mut older, .. } = self.take_up_books(shard, books)?;
+        let Told { by_mark, mut attempts, mut asked, .. } = self.take_up_books(shard, books)?;
         let is_there = |queue: &Arc<Queue>| self.find(&queue.name).is_some_and(|found| Arc::ptr_eq(&found, queue));
         for (mark, queue) in by_mark.into_iter().filter(|(_, queue)| is_there(queue)) {
-            let (store, base) = {
-                let state = queue.state();
-                (state.entry.store, state.entry.base)
-            };
+            let store = queue.state().entry.store;
             let not_there = || ImageError::Foreign(store.text(), "a book says of it, and it isn't there");
             let mut stored = living.remove(&store).ok_or_else(not_there)?;
             stored.attempts = attempts.remove(&mark).unwrap_or_default();
             let asked = asked.remove(&mark).unwrap_or_default();
             stored.untold = asked.into_iter().filter_map(|asked| untold(&image.handed, asked)).collect();
-            stored.older = older.remove(&mark).unwrap_or_default();
-            if !stored.put_lines(base) {
-                return Err(no_envelope(store));
-            }
             self.take_up_copies(place, &stored.accepted);
             self.names.use_by(place, store, &queue.in_use);
             let copied = self.take_up_messages(&queue, stored, (image.last, &image.far));
-            if let Some(mut stored) = living.remove(&store.of_delays()) {
+            if let Some(stored) = living.remove(&store.of_delays()) {
                 let delays = Arc::new(Queue::beside(&queue, store).0);
-                stored.older = older.remove(&delays.mark.0).unwrap_or_default();
-                if !stored.put_lines(0) {
-                    return Err(no_envelope(store.of_delays()));
-                }
                 self.names.use_by(place, store.of_delays(), &delays.in_use);
                 self.created(place, &delays, store.of_delays());
                 self.take_up_delayed(&queue, &delays, stored, (image.last, &image.far));
@@ -448,28 +402,22 @@ struct Told<'a> {
     tasks: HashMap<u64, Vec<(MoveTask, u64, u64)>>,
     attempts: HashMap<u64, Vec<AttemptEntry>>,
     asked: HashMap<u64, Vec<AttemptRequest>>,
-    older: HashMap<u64, Vec<OlderFact>>,
 }
 
 impl Told<'_> {
     fn new(queues: &Queues, place: usize) -> Told<'_> {
-        let (by_mark, tasks, attempts, asked, older) = Default::default();
-        Told { queues, place, by_mark, tasks, attempts, asked, older }
+        let (by_mark, tasks, attempts, asked) = Default::default();
+        Told { queues, place, by_mark, tasks, attempts, asked }
     }
 
     fn take(&mut self, entry: &Entry, book: u64, size: u64) {
         let (queues, place) = (self.queues, self.place);
         match entry {
             Entry::Queue(said) => {
-                let before = self.by_mark.get(&said.mark).map(|queue| queue.state().entry.clone());
                 let queue = self.by_mark.entry(said.mark).or_insert_with(|| Arc::new(Queue::new(said))).clone();
                 queues.said(place, &queue, entry, book, size);
                 for (task, book, size) in self.tasks.remove(&said.mark).unwrap_or_default() {
                     queues.said(place, &queue, &Entry::Task(said.mark, task), book, size);
-                }
-                // It takes what was said to be delayed before.
-                if before.is_some_and(|before| said.purges(&before)) {
-                    self.older.entry(said.mark).or_default().retain(|fact| !matches!(fact, OlderFact::Delayed(_)));
                 }
             }
             Entry::Removed(removal) => match self.by_mark.get(&removal.mark) {
@@ -485,7 +433,6 @@ impl Told<'_> {
             Entry::Program(program) => queues.program_said(program, book),
             Entry::Jump(moment, uncounted) => queues.jumps.add(*moment, *uncounted),
             Entry::Book(order) => queues.books.order_said(place, book, *order),
-            Entry::Older(mark, facts) => self.older.entry(*mark).or_default().extend(facts.iter().cloned()),
         }
     }
 }

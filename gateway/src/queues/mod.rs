@@ -35,7 +35,7 @@ pub use image::{Image, ImageError};
 use names::{InUse, Names};
 pub use parts::Parts;
 use shards::{Shard, Shards};
-pub use state::{Chunk, Cursor, OlderFact, Peeked, State, Visibility};
+pub use state::{Chunk, Cursor, Peeked, State, Visibility};
 
 /// So long a name isn't free after its queue was removed, in milliseconds
 /// (API Reference, CreateQueue, `QueueDeletedRecently`).
@@ -119,13 +119,12 @@ impl Queue {
             return [visible - delayed, in_flight, delayed];
         }
         let [all, due] = self.delays().map_or([0, 0], |delays| delays.state().count_due(now));
-        [visible + due, in_flight, all - due + self.state().count_older_delayed()]
+        [visible + due, in_flight, all - due]
     }
 
     /// How many delayed messages can't be sent.
     pub fn count_set_aside(&self) -> u64 {
-        let of_delays = self.delays().map_or(0, |delays| delays.state().count_set_aside());
-        of_delays + self.state().count_older_delayed()
+        self.delays().map_or(0, |delays| delays.state().count_set_aside())
     }
 
     /// What is known of it. Whoever holds this does nothing else meanwhile.
@@ -387,7 +386,7 @@ impl Queues {
                 self.remember_tasked(place, queue);
             }
             // The tables have it.
-            Entry::Attempt(_) | Entry::Older(..) => {}
+            Entry::Attempt(_) => {}
             Entry::Asked(asked) => queue.state().attempt_asks(asked),
             Entry::Program(program) => self.program_said(program, book),
             Entry::Jump(moment, uncounted) => self.jumps.add(*moment, *uncounted),
@@ -482,7 +481,7 @@ impl Queues {
         if let Ask::Send { cause: Cause::Move(origin), envelope, .. } = ask {
             self.copies.mark_copied(*origin);
             // What a task moves is a new message. All others keep their ids.
-            if own_id(envelope.whole()).is_none() {
+            if own_id(envelope.text()).is_none() {
                 self.count_moved(place, *origin);
             }
             if let Some(delays) = queue.delays().filter(|delays| delays.mark.0 == origin.mark) {
@@ -505,14 +504,11 @@ impl Queues {
 
     /// A message was sent to the queue beside `main`: others find it by its call, and it is due some day.
     fn delayed(&self, delays: &Arc<Queue>, main: &Queue, ask: &Ask, outcome: Outcome, moment: Moment) -> Outcome {
-        let (Ask::Send { dedup, envelope, cause, .. }, Outcome::Sent { sequence, id }) = (ask, &outcome) else {
+        let (Ask::Send { dedup, cause, .. }, Outcome::Sent { sequence, id }) = (ask, &outcome) else {
             return outcome;
         };
         let told = id.unwrap_or_else(|| message_id(delays.mark, *sequence));
         self.counted(main, |state| {
-            if let Some(id) = own_id(envelope.whole()) {
-                state.forget_older(id);
-            }
             if *cause == Cause::Client {
                 state.remember_delayed(dedup, told, moment);
             }
@@ -520,15 +516,6 @@ impl Queues {
         });
         self.alarms.set_next(delays);
         Outcome::Sent { sequence: *sequence, id: Some(told) }
-    }
-
-    /// Applies a record of a journal up to version 7, of which the store knows nothing.
-    pub fn apply_older(&self, place: usize, queue: &Arc<Queue>, change: &TableChange, moment: Moment) {
-        if let TableChange::Delayed(message) = change {
-            self.counted(queue, |state| state.sent_older(message, moment));
-        } else if let Some(entry) = queue.entry_after(change, moment) {
-            self.said(place, queue, &entry, 0, entry.size());
-        }
     }
 
     /// Does something to a queue, and counts what it takes of memory from then on.
@@ -590,7 +577,7 @@ impl Queues {
     }
 
     /// This queue isn't there, whatever has the name by now.
-    pub fn forget(&self, queue: &Arc<Queue>) {
+    fn forget(&self, queue: &Arc<Queue>) {
         self.take_out(queue);
         let mut queues = self.by_name.write().unwrap_or_else(PoisonError::into_inner);
         if queues.get(&queue.name).is_some_and(|found| Arc::ptr_eq(found, queue)) {

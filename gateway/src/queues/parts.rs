@@ -136,7 +136,7 @@ impl Parts {
     pub fn name(&self, number: u64) {
         let mut entries = self.entries();
         entries.by_number.entry(number).or_default().named += 1;
-        // In a replay what another program has of them may come late.
+        // What another program has of them may be taken up later.
         entries.freed.remove(&number);
     }
 
@@ -219,7 +219,7 @@ mod tests {
         let parts = Parts::default();
         [1, 2, 3].into_iter().for_each(|number| create(&parts, number));
         parts.name(2);
-        // Of a journal from which the records of the parts have gone, since they were removed.
+        // Parts that aren't there.
         parts.name(4);
         parts.settle_all();
         assert_eq!(freed(&parts), [1, 3]);
@@ -228,7 +228,7 @@ mod tests {
     }
 
     #[test]
-    fn parts_stay_where_one_program_is_replayed_before_another() {
+    fn parts_stay_where_one_program_is_taken_up_before_another() {
         let parts = Parts::default();
         create(&parts, 1);
         parts.name(1);

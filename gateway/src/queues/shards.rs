@@ -2,14 +2,11 @@
 
 use crate::texts::QueueName;
 
-/// How the journal names the hash by which queues are shared out: the CRC-32 of zlib, of the name's bytes.
-pub const HASH: &str = "crc32";
-
 /// The most programs that can share the queues.
 const MOST: u32 = 16;
 
-/// How many programs share the queues. A queue belongs to the one whose place, from 0, is the hash of its name modulo
-/// this number.
+/// How many programs share the queues. A queue belongs to the one whose place, from 0, is the CRC-32 of its name modulo this
+/// number, by zlib.
 #[derive(Clone, Copy, Debug, PartialEq, Eq)]
 pub struct Shards(u32);
 
@@ -31,8 +28,7 @@ impl Shards {
         (0..self.0).map(move |place| Shard { shards: self, place })
     }
 
-    /// The place of the program that has what goes by this number: parts, a book, and since version 8 of the journal the name
-    /// of a queue in the store.
+    /// The place of the program that has what goes by this number: parts, a book, and the name of a queue in the store.
     pub fn place_of_number(self, number: u64) -> usize {
         (number % u64::from(self.0)) as usize
     }
@@ -61,10 +57,6 @@ impl Shard {
         self.shards.place_of(name) == self.place as usize
     }
 
-    pub fn has_number(self, number: u64) -> bool {
-        self.shards.place_of_number(number) == self.place as usize
-    }
-
     pub fn place(self) -> usize {
         self.place as usize
     }
@@ -81,7 +73,7 @@ mod tests {
 
     #[test]
     fn a_queue_has_one_place_which_is_its_names_crc32() {
-        // By Python's zlib.crc32, which the journals of other versions must agree with.
+        // By Python's zlib.crc32: journals stay where they are.
         for (name, sum) in [("orders.fifo", ORDERS), ("a.fifo", A), ("zebra-9_X.fifo", ZEBRA)] {
             let name = QueueName::parse(name).unwrap();
             for count in 1..=16 {

@@ -164,7 +164,7 @@ mod tests {
 
     fn send(cause: Cause) -> Ask {
         let (group, dedup) = (GroupId::parse("g").unwrap(), DedupId::parse("d").unwrap());
-        Ask::Send { group, dedup, envelope: Envelope::Whole("x".repeat(1000)), cause }
+        Ask::Send { group, dedup, envelope: Envelope::from("x".repeat(1000)), cause }
     }
 
     #[test]

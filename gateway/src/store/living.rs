@@ -301,7 +301,7 @@ impl Living {
 
     fn send_by(&mut self, queue: &Arc<Queue>, dedup: DedupId, due: Option<Moment>) {
         let due = due.map_or(String::new(), |due| format!(",\"due\":{due}"));
-        let envelope = Envelope::Whole(format!("{{\"sent\":{}{due}}}\nbody {}", self.now, self.sends));
+        let envelope = Envelope::from(format!("{{\"sent\":{}{due}}}\nbody {}", self.now, self.sends));
         let group = self.next_group(queue);
         let _ = self.ask(queue, Ask::Send { group, dedup, envelope, cause: Cause::Client });
     }
@@ -402,12 +402,12 @@ impl Living {
             self.sends += 1;
             let origin = Origin { mark: queue.mark.0, sequence: receipt.sequence };
             let head = EnvelopeHead::of(&envelope).unwrap();
-            let sent = if queue.name.kind() == QueueKind::Fifo { Some(self.now) } else { head.sent };
+            let sent = if queue.name.kind() == QueueKind::Fifo { self.now } else { head.sent };
             let (id, source) = (keeps_id.then(Uuid::new_v4), keeps_id.then(|| queue.name.clone()));
             let head = EnvelopeHead { id, of: Some(origin), sent, due: None, source, ..head };
             let envelope = match head.parts {
                 Some(_) => head.as_line().unwrap(),
-                None => Envelope::Whole(head.over(&envelope).unwrap()),
+                None => Envelope::from(head.over(&envelope).unwrap()),
             };
             let place = self.shards.place_of(&target.name);
             let dedup = DedupId::parse(&CopyId::text(origin, secret_of(place))).unwrap();

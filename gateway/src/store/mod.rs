@@ -593,7 +593,7 @@ mod tests {
     fn a_copy_that_has_room_has_none_before_it_in_its_run_that_has_none() {
         let copy = |(sequence, body): (u64, &str)| {
             let (group, dedup) = (GroupId::parse("g").unwrap(), DedupId::parse("d").unwrap());
-            let (envelope, cause) = (Envelope::Whole(body.into()), Cause::Move(Origin { mark: 1, sequence }));
+            let (envelope, cause) = (Envelope::from(body.to_string()), Cause::Move(Origin { mark: 1, sequence }));
             Copy { sequence, ask: Ask::Send { group, dedup, envelope, cause } }
         };
         let bodies = ["aa", "bb", "\"bb", "cc", "dddd", "d", "eee", "\"\"\"\"", "ffffff"];

@@ -113,7 +113,7 @@ fn given_by(request: (u32, u64), ordinal: u64, until: Moment) -> Option<Vec<Rece
     let body = Envelope::new(&Metadata { sent: 500, ..Metadata::default() }, &Body::parse("b").unwrap()).unwrap();
     for (sequence, handings) in [(1, 1), (2, 1), (3, 0)] {
         let (handed, until) = if handings > 0 { (1000, until) } else { (0, 0) };
-        write(&Part::Message { sequence, group, body: body.whole(), handings, handed, until });
+        write(&Part::Message { sequence, group, body: body.text(), handings, handed, until });
     }
     write(&Part::End);
     let (queues, mut image) = (Queues::new(false), Image::new(false));

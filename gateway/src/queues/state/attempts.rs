@@ -150,7 +150,6 @@ mod tests {
     fn attempt(moment: Moment, until: Moment, sequences: &[u64]) -> Attempt {
         let handed = |sequence: &u64| Handed {
             receipt: Receipt { sequence: *sequence, ordinal: 1 },
-            count: 1,
             moment,
             first: moment,
             group: "g".into(),

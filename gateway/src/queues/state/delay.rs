@@ -1,7 +1,5 @@
 //! Delays: which messages are due.
 
-use std::sync::Arc;
-
 use uuid::Uuid;
 
 use super::delayed::First;
@@ -9,7 +7,7 @@ use super::message::Message;
 use super::State;
 use crate::clock::Moment;
 use crate::handles::Receipt;
-use crate::queues::ask::{Delayed, Outcome};
+use crate::queues::ask::Outcome;
 use crate::texts::DedupId;
 
 impl State {
@@ -80,25 +78,6 @@ impl State {
         self.due.forget_alarm();
     }
 
-    /// Delayed messages that an older journal has and the store hasn't, in the order of their sends.
-    pub fn older_delayed(&self) -> Vec<Arc<Delayed>> {
-        self.older.in_order()
-    }
-
-    /// Whether it has this one.
-    pub fn has_older(&self, id: Uuid) -> bool {
-        self.older.has(id)
-    }
-
-    pub fn count_older_delayed(&self) -> u64 {
-        self.older.count() as u64
-    }
-
-    /// The store has the delayed message of this id.
-    pub fn forget_older(&mut self, id: Uuid) {
-        self.older.remove(id);
-    }
-
     /// This call has sent a message with a delay.
     pub fn remember_delayed(&mut self, call: &DedupId, id: Uuid, moment: Moment) {
         self.calls.remember(call, First::Delayed(id), moment);
@@ -108,7 +87,7 @@ impl State {
     pub fn sent_by(&self, call: &DedupId, now: Moment) -> Option<Outcome> {
         Some(match self.calls.find(call, now)? {
             First::Delayed(id) => Outcome::Sent { sequence: 0, id: Some(id) },
-            First::Stored(sequence) => Outcome::Sent { sequence, id: self.own_id(sequence) },
+            First::Stored(sequence) => Outcome::Sent { sequence, id: None },
         })
     }
 

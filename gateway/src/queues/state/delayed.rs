@@ -3,14 +3,12 @@
 
 use std::collections::{BTreeSet, HashMap, VecDeque};
 use std::ops::Bound;
-use std::sync::Arc;
 
 use uuid::Uuid;
 
 use super::WINDOW;
 use crate::clock::Moment;
-use crate::limits::{CALL_BYTES, MESSAGE_BYTES};
-use crate::queues::ask::Delayed;
+use crate::limits::CALL_BYTES;
 use crate::texts::{CallKey, DedupId};
 
 /// When a message is due, and its sequence number.
@@ -129,53 +127,6 @@ impl DueMessages {
     /// None of them is moved any more.
     pub(super) fn clear(&mut self) {
         *self = DueMessages { alarm: self.alarm, ..DueMessages::default() };
-    }
-}
-
-/// Delayed messages that a journal up to version 6 has in records of their own. At a start they go to the store; what it
-/// refuses stays.
-#[derive(Debug, Default)]
-pub(super) struct OlderDelayed {
-    messages: HashMap<Uuid, (u64, Arc<Delayed>)>,
-    added: u64,
-    envelope_bytes: u64,
-}
-
-impl OlderDelayed {
-    pub(super) fn add(&mut self, message: &Arc<Delayed>) {
-        self.added += 1;
-        self.envelope_bytes += message.envelope.len() as u64;
-        self.messages.insert(message.id, (self.added, message.clone()));
-    }
-
-    /// The store has the message of this id. Tells whether it was one of these.
-    pub(super) fn remove(&mut self, id: Uuid) -> bool {
-        let removed = self.messages.remove(&id);
-        self.envelope_bytes -= removed.as_ref().map_or(0, |(_, message)| message.envelope.len() as u64);
-        removed.is_some()
-    }
-
-    pub(super) fn has(&self, id: Uuid) -> bool {
-        self.messages.contains_key(&id)
-    }
-
-    /// All of them, in the order of their sends.
-    pub(super) fn in_order(&self) -> Vec<Arc<Delayed>> {
-        let mut messages: Vec<_> = self.messages.values().collect();
-        messages.sort_unstable_by_key(|(added, _)| *added);
-        messages.into_iter().map(|(_, message)| message.clone()).collect()
-    }
-
-    pub(super) fn count(&self) -> usize {
-        self.messages.len()
-    }
-
-    pub(super) fn clear(&mut self) {
-        *self = OlderDelayed::default();
-    }
-
-    pub(super) fn bytes(&self) -> u64 {
-        self.envelope_bytes + MESSAGE_BYTES * self.messages.len() as u64
     }
 }
 

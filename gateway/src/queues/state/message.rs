@@ -17,11 +17,11 @@ pub(super) struct Message {
     pub(super) group: Group,
     /// How often the store has handed it out.
     pub(super) ordinal: u64,
-    /// The last handing that counts.
+    /// The last handing.
     pub(super) last: Option<Handing>,
     /// It is hidden until then.
     until: Moment,
-    /// Its whole envelope, where the store has a stub in its place, or where operators look at messages.
+    /// Its envelope, where operators look at messages.
     pub(super) envelope: Option<Arc<str>>,
     /// The id of its group, where operators look at messages.
     pub(super) group_id: Option<Box<str>>,
@@ -35,20 +35,14 @@ pub(super) struct Message {
 
 impl Message {
     /// A message that nobody was handed yet.
-    pub(super) fn new(
-        sent: Moment,
-        group: Group,
-        source: Option<Arc<QueueName>>,
-        envelope: Option<Arc<str>>,
-        bytes: u64,
-    ) -> Message {
+    pub(super) fn new(sent: Moment, group: Group, source: Option<Arc<QueueName>>, bytes: u64) -> Message {
         Message {
             sent,
             group,
             ordinal: 0,
             last: None,
             until: VISIBLE,
-            envelope,
+            envelope: None,
             group_id: None,
             bytes,
             source,

@@ -7,7 +7,6 @@ mod delayed;
 mod message;
 mod next;
 mod numbers;
-mod older;
 mod peek;
 mod receipts;
 mod recent;
@@ -22,7 +21,7 @@ use std::sync::Arc;
 
 use uuid::Uuid;
 
-use super::ask::{Ask, Cause, Changer, Delayed, Fate, Handed, Outcome, Reach, StoredAs};
+use super::ask::{Ask, Cause, Changer, Fate, Handed, Outcome, Reach, StoredAs};
 use super::book::{AttemptEntry, AttemptRequest, Entry, QueueEntry};
 use super::groups::{Group, Groups};
 use crate::attributes::QueueAttributes;
@@ -31,16 +30,14 @@ use crate::errors::SqsError;
 use crate::handles::Receipt;
 use crate::limits::{ID_BYTES, MESSAGE_BYTES, QUEUE_BYTES, STORED_ID_BYTES, STORED_MESSAGE_BYTES, STORED_QUEUE_BYTES};
 use crate::lines::{read_receipt, StoreMessage, StoreReply};
-use crate::messages::{has_parts, own_id, Envelope, EnvelopeHead};
+use crate::messages::{has_parts, Envelope, EnvelopeHead};
 use crate::move_tasks::{MoveTask, Status};
 use crate::redrive::RedrivePolicy;
 use crate::retention::Jumps;
 use crate::texts::{AttemptId, GroupId, QueueKind};
 use attempts::{Attempt, Attempts};
-use delayed::{Calls, DueMessages, First, OlderDelayed};
+use delayed::{Calls, DueMessages, First};
 use message::{Handing, Message, Messages};
-pub use older::OlderFact;
-use older::OlderMessages;
 pub use peek::{Chunk, Cursor, Peeked, Visibility};
 use recent::{RecentSend, SendsById};
 use said::bytes_of_queue;
@@ -101,9 +98,6 @@ pub struct State {
     sends_by_id: SendsById,
     /// How many of these messages were deleted.
     left_ids: u64,
-    /// The ids that an earlier version gave to some of them, in order of sequence numbers. Older ones may be there,
-    /// too, for repeats that are still on their way.
-    own_ids: VecDeque<(u64, Uuid)>,
     /// What the envelopes of the messages take.
     envelope_bytes: u64,
     /// How long these are.
@@ -117,11 +111,9 @@ pub struct State {
     groups: Option<Groups>,
     /// When somebody did so the last time.
     groups_needed: Moment,
-    older_messages: OlderMessages,
     /// Of a queue beside a standard one.
     due: DueMessages,
     /// Of a standard queue.
-    older: OlderDelayed,
     calls: Calls,
     /// How many openings there were at a sweep that found nothing to delete, and when the next timeout ended.
     vain_sweep: Option<(u64, Option<Moment>)>,
@@ -175,7 +167,6 @@ impl State {
             recent: VecDeque::new(),
             sends_by_id: SendsById::default(),
             left_ids: 0,
-            own_ids: VecDeque::new(),
             envelope_bytes: 0,
             sizes: Sizes::default(),
             attempts: Attempts::default(),
@@ -183,9 +174,7 @@ impl State {
             delay,
             groups: (delay > 0).then(Groups::default),
             groups_needed: 0,
-            older_messages: OlderMessages::default(),
             due: DueMessages::default(),
-            older: OlderDelayed::default(),
             calls: Calls::default(),
             vain_sweep: None,
         }
@@ -247,17 +236,17 @@ impl State {
     ) -> Result<Applied, SqsError> {
         let (sequence, moment) = (self.entry.base + place, send.moment);
         if sequence <= self.last_sequence {
-            return Ok(Applied::unchanged(Outcome::Sent { sequence, id: self.own_id(sequence) }));
+            return Ok(Applied::unchanged(Outcome::Sent { sequence, id: None }));
         }
         if sequence != self.last_sequence + 1 {
             return Err(misfit());
         }
         let needs_head =
-            self.kind == QueueKind::Standard || matches!(cause, Cause::Move(_)) || has_parts(envelope.stored());
-        let head = needs_head.then(|| EnvelopeHead::of(envelope.whole()).ok_or_else(misfit)).transpose()?;
+            self.kind == QueueKind::Standard || matches!(cause, Cause::Move(_)) || has_parts(envelope.text());
+        let head = needs_head.then(|| EnvelopeHead::of(envelope.text()).ok_or_else(misfit)).transpose()?;
         let sent = match (self.kind, &head) {
             // It may have been delayed, or be moved with the age that it has.
-            (QueueKind::Standard, Some(head)) => head.sent.map_or(moment, |sent| sent.min(moment)),
+            (QueueKind::Standard, Some(head)) => head.sent.min(moment),
             _ => moment,
         };
         let (parts, bytes_of_parts) = head.as_ref().map_or((None, None), |head| (head.parts, head.bytes));
@@ -265,41 +254,26 @@ impl State {
             self.due.add(sequence, due);
         }
         let source = head.and_then(|head| head.source).map(Arc::new);
-        let id = match cause {
-            // No client can repeat the gateway's own sends.
-            Cause::Move(_) => None,
-            // An older journal has a delayed message in a record of its own, until it is due.
-            Cause::Client | Cause::Older(_) => own_id(envelope.whole()).filter(|id| !self.older.remove(*id)),
-        };
-        self.remember(send, sequence, id);
+        self.remember(send, sequence);
         self.last_sequence = sequence;
         self.last_send = moment;
         let bytes = envelope.bytes() + bytes_of_parts.unwrap_or(0);
-        let envelope = match envelope {
-            Envelope::Whole(_) => None,
-            Envelope::Split { whole, .. } => Some(whole.as_str().into()),
-        };
         self.envelope_bytes += bytes;
         self.sizes.add(bytes);
         let group = Group::of(group.as_str());
         if let Some(groups) = &mut self.groups {
             groups.add(group, sequence, 0);
         }
-        self.messages.add(sequence, Message::new(sent, group, source, envelope, bytes).in_parts(parts));
+        self.messages.add(sequence, Message::new(sent, group, source, bytes).in_parts(parts));
         self.open();
-        Ok(Applied { outcome: Outcome::Sent { sequence, id }, opened: true, parts })
+        Ok(Applied { outcome: Outcome::Sent { sequence, id: None }, opened: true, parts })
     }
 
-    /// Takes up the send of the next message, of this number, with an id of its own or without.
-    fn remember(&mut self, send: RecentSend, sequence: u64, id: Option<Uuid>) {
+    /// Takes up the send of the next message, of this number.
+    fn remember(&mut self, send: RecentSend, sequence: u64) {
         self.forget_old_sends(send.moment);
-        let first = self.first_recent();
-        while self.own_ids.front().is_some_and(|(own, _)| *own < first) {
-            self.own_ids.pop_front();
-        }
         self.recent.push_back(send);
         self.sent_by_id(send, sequence);
-        self.own_ids.extend(id.map(|id| (sequence, id)));
     }
 
     /// Forgets the sends that are too old at this moment.
@@ -315,12 +289,6 @@ impl State {
     /// The number of the first message whose deduplication id counts, or of the next one where there is none.
     fn first_recent(&self) -> u64 {
         self.last_sequence + 1 - self.recent.len() as u64
-    }
-
-    /// The id that an earlier version gave to this message, if it did and a repeat may come.
-    fn own_id(&self, sequence: u64) -> Option<Uuid> {
-        let place = self.own_ids.binary_search_by_key(&sequence, |(own, _)| *own).ok()?;
-        self.own_ids.get(place).map(|(_, id)| *id)
     }
 
     fn received(
@@ -384,23 +352,17 @@ impl State {
         self.hide(receipt.sequence, receiving.until);
         let message = self.messages.get_mut(receipt.sequence).ok_or_else(misfit)?;
         let first = message.last.map_or(moment, |last| last.first);
-        let count = receipt.ordinal.saturating_sub(self.older_messages.count(receipt.sequence));
         let is_old = receiving.horizon.is_some_and(|horizon| message.sent <= horizon);
-        let is_dead = receiving.most.is_some_and(|most| count > u64::from(most));
+        let is_dead = receiving.most.is_some_and(|most| receipt.ordinal > u64::from(most));
         let is_due = receiving.due.is_some_and(|due| message.sent <= due);
         let fates = [(Fate::Old, is_old), (Fate::Early, !is_due), (Fate::Dead, is_dead)];
         let is_for_client = receiving.reach.is_for_client();
         let fate = fates.into_iter().find(|(_, applies)| *applies && is_for_client).map(|(fate, _)| fate);
         self.attempts.forget_with(receipt.sequence);
         message.ordinal = receipt.ordinal;
-        if matches!(receiving.reach, Reach::Uncounted) {
-            self.older_messages.add_uncounted(receipt.sequence);
-        } else {
-            self.older_messages.end(receipt.sequence, false);
-            message.last = Some(Handing { moment, first, touched: false });
-        }
+        message.last = Some(Handing { moment, first, touched: false });
         let envelope = message.envelope.clone().unwrap_or_else(|| given.body.into());
-        Ok((Handed { receipt, count, moment, first, group: given.group, envelope }, fate))
+        Ok((Handed { receipt, moment, first, group: given.group, envelope }, fate))
     }
 
     fn deleted(&mut self, receipt: Receipt, removed: bool) -> Applied {
@@ -414,7 +376,6 @@ impl State {
                 groups.remove(message.group, receipt.sequence, message.until());
             }
             self.attempts.forget_with(receipt.sequence);
-            self.older_messages.end(receipt.sequence, true);
             if !self.due.is_empty() {
                 self.due.remove(receipt.sequence);
             }
@@ -450,21 +411,6 @@ impl State {
         Applied::done(true)
     }
 
-    /// Takes up a delayed message that a record of an older journal has.
-    pub fn sent_older(&mut self, message: &Arc<Delayed>, moment: Moment) {
-        if let Some(call) = &message.call {
-            self.remember_older_call(call, message.id, moment);
-        }
-        self.add_older(message);
-        self.last_send = moment;
-    }
-
-    fn add_older(&mut self, message: &Arc<Delayed>) {
-        if !self.older.has(message.id) {
-            self.older.add(message);
-        }
-    }
-
     /// Hides a message, if it is there.
     fn hide(&mut self, sequence: u64, until: Moment) {
         let Some(before) = self.messages.hide(sequence, until) else { return };
@@ -489,7 +435,6 @@ impl State {
         self.forget_old_sends(now);
         self.attempts.forget_old(now);
         self.calls.forget_old(now);
-        self.older_messages.forget_old(now);
     }
 
     /// What the queue and its messages take of memory, in bytes; nothing once it is removed.
@@ -506,7 +451,7 @@ impl State {
             return 0;
         }
         let messages = MESSAGE_BYTES * self.messages.len() as u64;
-        let tables = self.attempts.bytes() + self.older.bytes() + self.calls.bytes();
+        let tables = self.attempts.bytes() + self.calls.bytes();
         self.envelope_bytes + tables + messages + ID_BYTES * self.left_ids
     }
 
@@ -581,10 +526,8 @@ impl State {
         self.recent = VecDeque::new();
         self.sends_by_id = SendsById::default();
         self.left_ids = 0;
-        self.own_ids = VecDeque::new();
         self.messages = Messages::default();
         self.groups = self.groups_of_delayed();
-        self.older_messages.clear();
         self.envelope_bytes = 0;
         self.sizes = Sizes::default();
         self.attempts.clear();

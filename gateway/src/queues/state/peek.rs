@@ -71,12 +71,8 @@ impl State {
         let Some(message) = self.messages.get_mut(*sequence).filter(|message| message.group_id.is_none()) else {
             return;
         };
-        let mut bytes = group.as_str().len() as u64;
-        if message.envelope.is_none() {
-            message.envelope = Some(envelope.whole().into());
-            bytes += envelope.whole().len() as u64;
-        }
-        message.group_id = Some(group.as_str().into());
+        let bytes = group.as_str().len() as u64 + envelope.bytes();
+        (message.group_id, message.envelope) = (Some(group.as_str().into()), Some(envelope.text().into()));
         self.sizes.remove(message.bytes);
         message.bytes += bytes;
         self.sizes.add(message.bytes);
@@ -88,12 +84,6 @@ impl State {
             Cursor::Stored(sequence) => self.peek_at_stored(sequence, most, now),
             Cursor::Delayed(due, sequence) => self.peek_at_delayed((due, sequence), most, now),
         }
-    }
-
-    /// What the tables have of each message, in order.
-    #[cfg(test)]
-    pub fn messages_told(&self) -> Vec<String> {
-        self.messages.from(0).map(|(sequence, message)| format!("{sequence}: {message:?}")).collect()
     }
 
     fn peek_at_stored(&self, after: u64, most: usize, now: Moment) -> Chunk {
@@ -118,7 +108,7 @@ impl State {
             visibility,
             sequence,
             group: message.group_id.as_deref()?.into(),
-            count: message.ordinal.saturating_sub(self.older_messages.count(sequence)),
+            count: message.ordinal,
             first: message.last.map(|last| last.first),
             envelope: message.envelope.clone()?,
         })

@@ -19,9 +19,8 @@ impl State {
         }
         if let Some(message) = self.messages.get(receipt.sequence) {
             let last = message.last.ok_or(SqsError::ReceiptHandleIsInvalid)?;
-            let told = message.ordinal - self.older_messages.count_since(receipt.sequence);
-            let is_last = receipt.ordinal == told;
-            if receipt.ordinal > told || (is_last && handle.moment != last.moment) {
+            let is_last = receipt.ordinal == message.ordinal;
+            if receipt.ordinal > message.ordinal || (is_last && handle.moment != last.moment) {
                 return Err(SqsError::ReceiptHandleIsInvalid);
             }
         }
@@ -33,20 +32,16 @@ impl State {
         self.messages.has(receipt.sequence)
     }
 
-    /// Whether this is the last receipt of a message that is there (see [`State::last_receipt`]) and its timeout is over,
-    /// exactly at its end already.
+    /// Whether this is the last receipt of a message that is there and its timeout is over, exactly at its end already.
     /// An ask that isn't answered yet may still change that.
     pub fn has_expired(&self, receipt: Receipt, now: Moment) -> bool {
-        let Some(message) = self.messages.get(receipt.sequence) else { return false };
-        let is_last = message.last.is_some() && receipt.ordinal == message.ordinal;
-        is_last && (self.older_messages.count_since(receipt.sequence) > 0 || message.until() <= now)
+        self.is_last(receipt) && self.messages.get(receipt.sequence).is_some_and(|message| message.until() <= now)
     }
 
     /// Whether this is the receipt of the last handing of a message that is there.
     pub fn is_last(&self, receipt: Receipt) -> bool {
         let is_by_it = |message: &Message| message.last.is_some() && message.ordinal == receipt.ordinal;
         self.messages.get(receipt.sequence).is_some_and(is_by_it)
-            && self.older_messages.count_since(receipt.sequence) == 0
     }
 
     /// Whether each of these receipts is its message's last one, and none of them has ended.
@@ -68,15 +63,6 @@ impl State {
         Some((receipts, next?))
     }
 
-    /// The receipt by which the store knows the handing that `receipt` stands for: another one where only handings that
-    /// don't count came behind it.
-    pub fn last_receipt(&self, receipt: Receipt) -> Receipt {
-        let since = self.older_messages.count_since(receipt.sequence);
-        let Some(message) = self.messages.get(receipt.sequence).filter(|_| since > 0) else { return receipt };
-        let is_current = (message.ordinal - since..=message.ordinal).contains(&receipt.ordinal);
-        Receipt { ordinal: if is_current { message.ordinal } else { receipt.ordinal }, ..receipt }
-    }
-
     /// The receipt of the message's last handing, to whomever; none if there is none, or the message or the queue isn't
     /// there any more.
     pub fn last_receipt_of(&self, sequence: u64) -> Option<Receipt> {
@@ -88,8 +74,7 @@ impl State {
     /// was handed out after that and after the last change of the queue's attributes surely wasn't a client's.
     pub fn is_set_aside(&self, sequence: u64, created: Moment) -> bool {
         let Some(message) = self.messages.get(sequence) else { return false };
-        let count = message.ordinal.saturating_sub(self.older_messages.count(sequence));
-        let is_dead = self.redrive().is_some_and(|policy| count > u64::from(policy.most));
+        let is_dead = self.redrive().is_some_and(|policy| message.ordinal > u64::from(policy.most));
         is_dead && message.last.is_some_and(|last| last.moment > self.entry.modified.max(created))
     }
 
@@ -111,9 +96,6 @@ impl State {
         created: Option<Moment>,
         jumps: &Jumps,
     ) -> Option<Fate> {
-        if self.older_messages.count_since(sequence) > 0 {
-            return Some(Fate::Early);
-        }
         let handed = message.last.map(|last| last.moment).filter(|handed| *handed > self.entry.modified)?;
         let is_old = self.horizon(jumps, handed).is_some_and(|horizon| message.sent <= horizon);
         let is_dead = created.is_some_and(|created| self.is_set_aside(sequence, created));

@@ -46,7 +46,7 @@ impl State {
             .0
             .get_or_insert_with(|| numbered.map(|(send, number)| (send.fingerprint, number)).collect());
         let sequence = *by_id.get(&id.fingerprint()).filter(|sequence| **sequence >= first)?;
-        Some(Outcome::Sent { sequence, id: self.own_id(sequence) })
+        Some(Outcome::Sent { sequence, id: None })
     }
 
     /// A message was sent with an id of this fingerprint.

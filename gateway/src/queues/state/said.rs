@@ -60,13 +60,11 @@ impl State {
                 let task = self.tasks.iter().find(|task| task.id == *id)?;
                 return Some(Entry::Task(entry.mark, task.clone()));
             }
-            TableChange::Delayed(_) => {}
         }
         (entry != self.entry).then_some(Entry::Queue(entry))
     }
 
-    /// The book of this number says how the queue stands, by an entry of this size; 0 stands for records of a journal up to
-    /// version 7.
+    /// The book of this number says how the queue stands, by an entry of this size.
     pub fn said(&mut self, entry: &QueueEntry, book: u64, size: u64) -> Said {
         let before = std::mem::replace(&mut self.entry, entry.clone());
         (self.said_in, self.entry_size) = (book, size);
@@ -81,9 +79,6 @@ impl State {
         if said.has_opened {
             self.redrive = entry.attributes.redrive();
             self.set_delay(delay_of_all(self.kind, &entry.attributes));
-        }
-        if entry.purges(&before) {
-            self.older.clear();
         }
         self.own_bytes = bytes_of_queue(&entry.attributes, &entry.tags);
         said

@@ -42,7 +42,6 @@ impl State {
             far.fetch_add(1, Ordering::Relaxed);
         }
         self.groups = self.groups_of_delayed();
-        self.take_up_older(stored.older);
         for attempt in stored.attempts {
             self.take_up_attempt(&attempt, &texts);
         }
@@ -66,7 +65,7 @@ impl State {
         let sequence = self.entry.base + stored.sequence;
         let source = head.source.map(Arc::new);
         let bytes = stored.bytes + head.bytes.unwrap_or(0);
-        let mut message = Message::new(head.sent.unwrap_or(0), group, source, None, bytes).in_parts(head.parts);
+        let mut message = Message::new(head.sent, group, source, bytes).in_parts(head.parts);
         message.ordinal = handings;
         // Of the handings the store has the last one alone.
         message.last = (handings > 0).then_some(Handing { moment: handed, first: handed, touched: false });
@@ -94,8 +93,7 @@ impl State {
             let (last, (group, envelope)) = (message.last.filter(|_| is_held)?, texts.get(sequence)?);
             let receipt = Receipt { sequence: *sequence, ordinal: *ordinal };
             let (moment, first, group) = (last.moment, last.first, group.to_string());
-            let count = ordinal.saturating_sub(self.older_messages.count(*sequence));
-            Some(Handed { receipt, count, moment, first, group, envelope: envelope.clone() })
+            Some(Handed { receipt, moment, first, group, envelope: envelope.clone() })
         };
         let handed: Option<Vec<_>> = entry.handed.iter().map(handed_by).collect();
         if let Some(handed) = handed {
@@ -152,7 +150,7 @@ impl State {
 impl State {
     /// What attempts were given, as far as the bytes tell it, and how many bytes that takes.
     pub fn attempts_told(&self) -> (u64, Vec<String>) {
-        let of_handed = |handed: &Handed| (handed.receipt, handed.count, handed.moment, handed.envelope.clone());
+        let of_handed = |handed: &Handed| (handed.receipt, handed.moment, handed.envelope.clone());
         let told = self.attempts.all().map(|(id, attempt)| {
             let handed: Vec<_> = attempt.handed.iter().map(of_handed).collect();
             format!("{id:?} {} {} {} {handed:?}", attempt.moment, attempt.until, attempt.bytes)
@@ -164,11 +162,7 @@ impl State {
     pub fn told_by_bytes(&mut self, now: Moment) -> String {
         self.look_at_ages(now);
         let groups_needed = self.groups_needed;
-        let uncounted = |sequence| (self.older_messages.count(sequence), self.older_messages.count_since(sequence));
-        let told = |(sequence, message)| format!("{} {:?}", told_of(sequence, message), uncounted(sequence));
-        let messages: Vec<_> = self.messages.from(0).map(told).collect();
-        let ids: Vec<_> = self.own_ids.iter().filter(|(sequence, _)| *sequence >= self.first_recent()).collect();
-        let older = format!("{ids:?} {:?}", self.older.in_order());
+        let messages: Vec<_> = self.messages.from(0).map(|(sequence, message)| told_of(sequence, message)).collect();
         let next = self.next_up_to(u64::MAX, usize::MAX, now);
         (self.groups, self.groups_needed) = (self.groups_of_delayed(), groups_needed);
         // How many messages a task has moved is told as of its last entry.
@@ -180,7 +174,7 @@ impl State {
         let sends = (self.last_sequence, &self.recent, self.left_ids, self.calls.told());
         let incarnation = self.incarnation;
         format!(
-            "{entry:?} {incarnation} {of_entries:?} {tasks:?} {sends:?} {:?} {next:?} {messages:?} {older}",
+            "{entry:?} {incarnation} {of_entries:?} {tasks:?} {sends:?} {:?} {next:?} {messages:?}",
             self.due.told()
         )
     }

@@ -6,7 +6,7 @@ use std::sync::Arc;
 use super::*;
 use crate::attributes::GivenAttributes;
 use crate::handles::Handle;
-use crate::queues::ask::{Delayed, StoreName, TableChange};
+use crate::queues::ask::{StoreName, TableChange};
 use crate::queues::book::{Entry, Purging};
 use crate::queues::{Queue, Queues};
 use crate::texts::{DedupId, QueueName};
@@ -34,7 +34,7 @@ fn change(state: &mut State, change: &TableChange, moment: Moment) -> bool {
 }
 
 fn send(state: &mut State, place: u64, moment: Moment) {
-    let envelope = Envelope::Whole(format!("{{\"id\":\"{}\"}}\nbody", Uuid::from_u128(7)));
+    let envelope = Envelope::from(format!("{{\"id\":\"{}\"}}\nbody", Uuid::from_u128(7)));
     let (group, dedup) = (GroupId::parse("g").unwrap(), DedupId::parse("d").unwrap());
     state
         .apply_reply(
@@ -80,8 +80,8 @@ fn what_is_deleted_counts_by_its_id_until_that_is_too_old() {
     assert_eq!(state.bytes_in_use(), 0);
 }
 
-fn receive_by(state: &mut State, ordinal: u64, reach: Reach, moment: Moment) -> (Vec<Handed>, Vec<(Handed, Fate)>) {
-    let ask = Ask::Receive { size: 1, visibility: 5, attempt: None, most: Some(2), reach };
+fn receive(state: &mut State, ordinal: u64, moment: Moment) -> (Vec<Handed>, Vec<(Handed, Fate)>) {
+    let ask = Ask::Receive { size: 1, visibility: 5, attempt: None, most: Some(2), reach: Reach::All };
     let (group, receipt) = ("g".into(), format!("1-1-{ordinal}"));
     let given = crate::lines::StoreMessage { group, receipt, body: "b".into() };
     let applied = state.apply_reply(&ask, StoreReply::Received(vec![given]), moment, &Jumps::default()).unwrap();
@@ -91,40 +91,30 @@ fn receive_by(state: &mut State, ordinal: u64, reach: Reach, moment: Moment) -> 
     }
 }
 
-fn receive(state: &mut State, ordinal: u64, moment: Moment) -> (Vec<Handed>, Vec<(Handed, Fate)>) {
-    receive_by(state, ordinal, Reach::All, moment)
-}
-
 #[test]
-fn what_an_earlier_gateway_was_handed_counts_as_no_handing_and_takes_nothing_from_a_client() {
+fn what_was_handed_out_too_often_is_set_aside_and_earlier_handles_are_known() {
     let mut state = state();
     send(&mut state, 1, 0);
-    receive_by(&mut state, 1, Reach::Uncounted, 0);
-    assert_eq!(state.cut_off(None, &Jumps::default(), 4999), [(Receipt { sequence: 1, ordinal: 1 }, Fate::Early)]);
     let handle = |ordinal, moment| {
         let receipt = Receipt { sequence: 1, ordinal };
         Handle { mark: crate::handles::Mark(1), receipt, moment }
     };
-    assert!(state.receipt_of(&handle(1, 0)).is_err(), "no client had it");
-    let given = &receive(&mut state, 2, 10_000).0[0];
-    assert_eq!((given.count, given.first), (1, 10_000));
+    assert!(state.receipt_of(&handle(1, 10_000)).is_err(), "nobody had it");
+    let given = &receive(&mut state, 1, 10_000).0[0];
+    assert_eq!((given.receipt.ordinal, given.first), (1, 10_000));
     assert!(state.cut_off(None, &Jumps::default(), 10_000).is_empty());
-    receive_by(&mut state, 3, Reach::Uncounted, 20_000);
-    let receipt = state.receipt_of(&handle(2, 10_000)).unwrap();
-    assert_eq!(state.last_receipt(receipt).ordinal, 3);
-    assert!(state.receipt_of(&handle(3, 20_000)).is_err());
-    assert!(!state.are_in_flight(&[receipt], 20_000));
-    assert!(state.has_expired(Receipt { sequence: 1, ordinal: 3 }, 20_000));
-    let again = &receive(&mut state, 4, 30_000).0[0];
-    assert_eq!((again.count, again.first), (2, 10_000));
-    // The handing before is none that anything can be done with.
-    assert_eq!(state.last_receipt(receipt), receipt);
-    assert!(state.are_in_flight(&[again.receipt], 34_999));
+    let receipt = state.receipt_of(&handle(1, 10_000)).unwrap();
+    assert!(state.receipt_of(&handle(1, 10_001)).is_err() && state.receipt_of(&handle(2, 20_000)).is_err());
+    assert!(state.are_in_flight(&[receipt], 14_999) && !state.has_expired(receipt, 14_999));
+    assert!(!state.are_in_flight(&[receipt], 15_000) && state.has_expired(receipt, 15_000));
+    let again = &receive(&mut state, 2, 30_000).0[0];
+    assert_eq!((again.receipt.ordinal, again.first), (2, 10_000));
+    assert_eq!(state.receipt_of(&handle(1, 10_000)), Ok(receipt), "it was handed out by that");
+    assert!(state.are_in_flight(&[again.receipt], 34_999) && !state.are_in_flight(&[receipt], 34_999));
     // Two handings are as many as there may be.
-    let (handed, set_aside) = receive(&mut state, 5, 40_000);
-    assert_eq!((handed.len(), set_aside[0].1, set_aside[0].0.count), (0, Fate::Dead, 3));
-    assert_eq!(state.last_receipt_of(1), Some(Receipt { sequence: 1, ordinal: 5 }));
-    assert_eq!(state.last_receipt(again.receipt), again.receipt, "who had it can do nothing any more");
+    let (handed, set_aside) = receive(&mut state, 3, 40_000);
+    assert_eq!((handed.len(), set_aside[0].1, set_aside[0].0.receipt.ordinal), (0, Fate::Dead, 3));
+    assert_eq!(state.last_receipt_of(1), Some(Receipt { sequence: 1, ordinal: 3 }));
 }
 
 #[test]
@@ -166,7 +156,7 @@ fn what_is_too_old_is_set_aside() {
 }
 
 fn envelope(id: u128, sent: Moment) -> Envelope {
-    Envelope::Whole(format!("{{\"id\":\"{}\",\"sent\":{sent}}}\nbody", Uuid::from_u128(id)))
+    Envelope::from(format!("{{\"id\":\"{}\",\"sent\":{sent}}}\nbody", Uuid::from_u128(id)))
 }
 
 fn send_standard(state: &mut State, place: u64, sent: Moment, cause: Cause, moment: Moment) -> Outcome {
@@ -179,7 +169,7 @@ fn send_standard(state: &mut State, place: u64, sent: Moment, cause: Cause, mome
 /// Sends a message that is due at some moment, as to the queue beside a standard one.
 fn delay(state: &mut State, place: u64, due: Moment, moment: Moment) {
     let id = Uuid::from_u128(u128::from(place));
-    let envelope = Envelope::Whole(format!("{{\"id\":\"{id}\",\"sent\":{moment},\"due\":{due}}}\nbody"));
+    let envelope = Envelope::from(format!("{{\"id\":\"{id}\",\"sent\":{moment},\"due\":{due}}}\nbody"));
     let ask =
         Ask::Send { group: GroupId::of_message(id), dedup: DedupId::of_message(id), envelope, cause: Cause::Client };
     let applied = state.apply_reply(&ask, StoreReply::Sent(place), moment, &Jumps::default()).unwrap();
@@ -204,37 +194,6 @@ fn a_delayed_message_is_due_until_it_has_a_copy() {
     assert_eq!((state.purging(), state.count_due(9000)), (Some(3), [1, 1]), "it was sent since");
     state.purge_with(None);
     assert_eq!(state.purging(), None);
-}
-
-#[test]
-fn a_delayed_message_of_an_older_journal_is_there_until_the_store_has_it() {
-    let call = DedupId::of_call(&[0; 32], None);
-    let mut state = state_of("standard");
-    let empty = state.bytes_in_use();
-    for id in 1..=3 {
-        let envelope = envelope(id, 1000).whole().to_string();
-        let call = (id == 3).then(|| call.clone());
-        let message = Delayed { id: Uuid::from_u128(id), due: 5000, call, envelope };
-        state.sent_older(&Arc::new(message), 1000);
-    }
-    let ids = |state: &State| state.older_delayed().iter().map(|one| one.id.as_u128()).collect::<Vec<_>>();
-    assert_eq!(ids(&state), [1, 2, 3]);
-    // That version sent it itself, when it was due.
-    send_standard(&mut state, 1, 1000, Cause::Client, 5001);
-    state.forget_older(Uuid::from_u128(2));
-    assert_eq!(ids(&state), [3]);
-    let four_days = 345_600_000;
-    assert!(state.has_old(&Jumps::default(), 1000 + four_days) && !state.has_old(&Jumps::default(), 999 + four_days));
-    let id_of_call = |state: &mut State, now| match state.sent_by(&call, now) {
-        Some(Outcome::Sent { id, .. }) => id,
-        _ => None,
-    };
-    assert_eq!(id_of_call(&mut state, 999 + WINDOW), Some(Uuid::from_u128(3)));
-    assert!(change(&mut state, &TableChange::Purging(1), 5500));
-    assert_eq!((ids(&state), id_of_call(&mut state, 1000 + WINDOW)), (vec![], None));
-    delete(&mut state, 1, 6000);
-    state.look_at_ages(5001 + WINDOW);
-    assert_eq!(state.bytes_in_use(), empty);
 }
 
 fn given(places: std::ops::RangeInclusive<u64>) -> StoreReply {
@@ -420,70 +379,40 @@ fn handings_and_delays_are_told_by_a_look() {
     };
     assert_eq!(look(&state, 14_999), (Visibility::Delayed, 0, "g".into()));
     assert_eq!(look(&state, 15_000), (Visibility::Visible, 0, "g".into()));
-    receive_by(&mut state, 1, Reach::Uncounted, 20_000);
-    assert_eq!(look(&state, 20_000), (Visibility::InFlight, 0, "g".into()));
-    receive(&mut state, 2, 30_000);
+    receive(&mut state, 1, 30_000);
+    assert_eq!(look(&state, 34_999), (Visibility::InFlight, 1, "g".into()));
     assert_eq!(look(&state, 35_000), (Visibility::Visible, 1, "g".into()));
 }
 
-/// Sends a message with an id in its envelope or without, and tells the id that isn't made of its place.
-fn own_id_told(state: &mut State, place: u64, id: Option<u128>, dedup: &DedupId, moment: Moment) -> Option<u128> {
-    let id = id.map_or(String::new(), |id| format!("\"id\":\"{}\",", Uuid::from_u128(id)));
-    let envelope = Envelope::Whole(format!("{{{id}\"sent\":{moment}}}\nbody"));
+/// Sends a message, whose id is made of its place.
+fn send_with(state: &mut State, place: u64, dedup: &DedupId, moment: Moment) {
+    let envelope = Envelope::from(format!("{{\"sent\":{moment}}}\nbody"));
     let group = GroupId::parse("g").unwrap();
     let ask = Ask::Send { group, dedup: dedup.clone(), envelope, cause: Cause::Client };
     let applied = state.apply_reply(&ask, StoreReply::Sent(place), moment, &Jumps::default()).unwrap();
-    match applied.outcome {
-        Outcome::Sent { sequence, id } if sequence == place => id.map(|id| id.as_u128()),
-        other => panic!("{other:?}"),
-    }
+    assert!(matches!(applied.outcome, Outcome::Sent { sequence, id: None } if sequence == place));
 }
 
 #[test]
-fn a_repeat_is_told_the_first_ones_place_and_no_id_is_kept() {
+fn a_repeat_is_told_the_first_ones_place_and_adds_nothing() {
     let (mut state, dedup) = (state(), DedupId::parse("d").unwrap());
     let sends = [(1, 0), (2, 10), (1, 20), (3, WINDOW + 10), (1, WINDOW + 20), (2, 2 * WINDOW), (3, 2 * WINDOW)];
-    for (place, moment) in sends {
-        assert_eq!(own_id_told(&mut state, place, None, &dedup, moment), None);
-    }
-    assert_eq!((state.last_sequence, state.own_ids.len()), (3, 0));
-}
-
-#[test]
-fn a_repeat_is_told_the_id_that_an_earlier_version_gave() {
-    for name in ["q.fifo", "standard"] {
-        let (mut state, dedup) = (state_of(name), DedupId::parse("d").unwrap());
-        let send = |state: &mut State, place, id, moment| own_id_told(state, place, id, &dedup, moment);
-        assert_eq!(send(&mut state, 1, Some(7), 0), Some(7));
-        assert_eq!(send(&mut state, 2, Some(8), 1000), Some(8));
-        delete(&mut state, 1, 2000);
-        assert_eq!(send(&mut state, 1, None, 3000), Some(7));
-        state.look_at_ages(WINDOW);
-        assert_eq!(send(&mut state, 1, None, WINDOW - 1), Some(7), "it was on its way");
-        assert_eq!(send(&mut state, 3, None, WINDOW), None);
-        assert_eq!([1, 2, 3].map(|place| send(&mut state, place, None, WINDOW)), [None, Some(8), None]);
-        assert_eq!(send(&mut state, 4, None, WINDOW + 1000), None);
-        assert!(state.own_ids.is_empty());
-    }
+    sends.into_iter().for_each(|(place, moment)| send_with(&mut state, place, &dedup, moment));
+    assert_eq!((state.last_sequence, state.count()), (3, 3));
 }
 
 #[test]
 fn a_call_is_known_whether_it_sent_its_message_with_a_delay_or_without() {
     let call = DedupId::of_call(&[0; 32], None);
-    for own in [None, Some(7)] {
-        let mut state = state_of("standard");
-        own_id_told(&mut state, 1, own, &call, 10);
-        state.remember_delayed(&call, Uuid::from_u128(9), 20);
-        let first = state.sent_by(&call, 30);
-        assert!(
-            matches!(first, Some(Outcome::Sent { sequence: 1, id }) if id == own.map(Uuid::from_u128)),
-            "{first:?}"
-        );
-        assert!(state.sent_by(&call, 10 + WINDOW).is_none());
-        state.remember_delayed(&call, Uuid::from_u128(9), 20 + WINDOW);
-        let first = state.sent_by(&call, 20 + WINDOW);
-        assert!(matches!(first, Some(Outcome::Sent { id, .. }) if id == Some(Uuid::from_u128(9))), "{first:?}");
-    }
+    let mut state = state_of("standard");
+    send_with(&mut state, 1, &call, 10);
+    state.remember_delayed(&call, Uuid::from_u128(9), 20);
+    let first = state.sent_by(&call, 30);
+    assert!(matches!(first, Some(Outcome::Sent { sequence: 1, id: None })), "{first:?}");
+    assert!(state.sent_by(&call, 10 + WINDOW).is_none());
+    state.remember_delayed(&call, Uuid::from_u128(9), 20 + WINDOW);
+    let first = state.sent_by(&call, 20 + WINDOW);
+    assert!(matches!(first, Some(Outcome::Sent { id, .. }) if id == Some(Uuid::from_u128(9))), "{first:?}");
 }
 
 #[test]
@@ -493,7 +422,7 @@ fn a_call_that_is_looked_up_when_it_is_old_counts_until_it_is_forgotten() {
     let queue = Arc::new(Queue::new(&entry));
     queues.said(0, &queue, &Entry::Queue(entry), 1, 0);
     let (group, call) = (GroupId::parse("g").unwrap(), DedupId::of_call(&[0; 32], None));
-    let envelope = Envelope::Whole("{\"sent\":0}\nbody".into());
+    let envelope = Envelope::from("{\"sent\":0}\nbody".to_string());
     let ask = Ask::Send { group, dedup: call.clone(), envelope, cause: Cause::Client };
     queues.apply_reply(0, &queue, &ask, StoreReply::Sent(1), 0).unwrap();
     let looked_up = [WINDOW - 1, WINDOW].map(|now| queue.state().sent_by(&call, now).is_some());

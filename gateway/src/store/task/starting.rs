@@ -13,9 +13,9 @@ use crate::limits::{GONE_NAME_BYTES, STORED_NAME_BYTES};
 use crate::lines::AskFields;
 use crate::queues::ask::{Ask, Cause, Outcome, StoreName, StoredAs, TableChange};
 use crate::queues::book::{self, AttemptRequest};
-use crate::queues::{Queue, State};
+use crate::queues::Queue;
 use crate::store::{Answer, Operation};
-use crate::texts::{DedupId, QueueKind, STORE_LIMIT};
+use crate::texts::{DedupId, QueueKind};
 
 impl Task {
     /// Starts the operations that wait, as long as there are free clients.
@@ -32,7 +32,6 @@ impl Task {
                 _ if is_late => StartOutcome::ready(Err(too_late())),
                 (Some(queue), Some(Operation::Ask(ask))) => self.start_ask(queue, ask)?,
                 (Some(queue), Some(Operation::AskBeside(ask))) => match queue.delays() {
-                    _ if is_purged(&ask, &queue) => StartOutcome::ready(Ok(Outcome::Done)),
                     Some(delays) if !delays.state().removed => self.start_ask(delays, ask)?,
                     // It went meanwhile, or its queue goes over to another name.
                     _ => StartOutcome::ready(Err(without_delays(&queue))),
@@ -79,10 +78,10 @@ impl Task {
     fn start_ask(&mut self, queue: Arc<Queue>, ask: Ask) -> Result<StartOutcome, Ended> {
         let ready = |answer| Ok(StartOutcome::ready(answer));
         let moment = self.clock.now();
-        let (stored, removed, is_rescoped, ask) = {
+        let (stored, removed, is_rescoped) = {
             let state = queue.state();
             let is_rescoped = state.has_ids_of_other_scope(moment);
-            (state.stored_as(), state.removed, is_rescoped, with_last_receipt(ask, &state))
+            (state.stored_as(), state.removed, is_rescoped)
         };
         // The store may have it for a while.
         if removed {
@@ -368,12 +367,6 @@ impl Task {
             return Ok(StartOutcome::ready(Err(without_book())));
         };
         let text = entry.text()?;
-        if text.len() > STORE_LIMIT {
-            // So long may be what an older journal has.
-            self.admission.answered(weight);
-            let message = "The queue's attributes and tags are too long.";
-            return Ok(StartOutcome::ready(Err(SqsError::InvalidParameterValue(message.into()))));
-        }
         let ask = Ask::Say { book, entry: Arc::new(entry), text };
         let written = frames::ask(&AskFields::of(StoredAs::first(StoreName::of_book(book)), &ask))?;
         self.ask_admitted(queue, ask, written, self.clock.now(), weight)
@@ -399,11 +392,6 @@ pub(super) fn stamped(mut ask: Ask, queue: &Queue, moment: Moment) -> Ask {
         envelope.stamp(moment);
     }
     ask
-}
-
-/// Whether this sends a message of an older journal that a purge has taken meanwhile.
-fn is_purged(ask: &Ask, queue: &Queue) -> bool {
-    matches!(ask, Ask::Send { cause: Cause::Older(id), .. } if !queue.state().has_older(*id))
 }
 
 /// Whoever asked for it has asked somebody else by now, or has given up.
@@ -449,16 +437,5 @@ fn answer_about_earlier(ask: &Ask, base: u64) -> Option<Answer> {
         Ask::Delete { receipt, .. } if receipt.sequence <= base => Some(Ok(Outcome::Done)),
         Ask::ChangeVisibility { receipt, .. } if receipt.sequence <= base => Some(Err(SqsError::of_no_message())),
         _ => None,
-    }
-}
-
-/// Handings to the gateway itself take nothing from who had the message before.
-fn with_last_receipt(ask: Ask, state: &State) -> Ask {
-    match ask {
-        Ask::Delete { receipt, by_client } => Ask::Delete { receipt: state.last_receipt(receipt), by_client },
-        Ask::ChangeVisibility { receipt, visibility, by } => {
-            Ask::ChangeVisibility { receipt: state.last_receipt(receipt), visibility, by }
-        }
-        other => other,
     }
 }

@@ -105,7 +105,7 @@ fn chain() -> (Store, Arc<Queue>, Node) {
 
 fn send(id: &str) -> Ask {
     let (group, dedup) = (GroupId::parse("g").unwrap(), DedupId::parse(id).unwrap());
-    Ask::Send { group, dedup, envelope: Envelope::Whole("{\"sent\":0}\nbody".into()), cause: Cause::Client }
+    Ask::Send { group, dedup, envelope: Envelope::from("{\"sent\":0}\nbody".to_string()), cause: Cause::Client }
 }
 
 /// Asks beside all else.

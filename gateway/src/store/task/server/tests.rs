@@ -157,7 +157,7 @@ fn store() -> (Store, Arc<Queue>, Program, Ends) {
 
 fn send_by(id: &str, cause: Cause) -> Ask {
     let (group, dedup) = (GroupId::parse("g").unwrap(), DedupId::parse(id).unwrap());
-    Ask::Send { group, dedup, envelope: Envelope::Whole("{\"sent\":0}\nbody".into()), cause }
+    Ask::Send { group, dedup, envelope: Envelope::from("{\"sent\":0}\nbody".to_string()), cause }
 }
 
 fn send(id: &str) -> Ask {
