@@ -109,18 +109,18 @@ impl<'a> AskFields<'a> {
 
 /// The store refuses one of another queue of its name.
 fn receipt_text(receipt: Receipt, stored: StoredAs) -> Cow<'static, str> {
-    format!("{}-{}-{}", stored.incarnation, receipt.sequence.saturating_sub(stored.base), receipt.ordinal).into()
+    format!("{}-{}-{}", stored.incarnation, receipt.sequence, receipt.ordinal).into()
 }
 
 /// Reads the store's text of a receipt of this queue. None if it is that of another queue of its name.
 pub fn read_receipt(text: &str, stored: StoredAs) -> Option<Receipt> {
     let mut parts = text.split('-').map(|part| part.parse::<u64>().ok());
-    let (Some(Some(incarnation)), Some(Some(place)), Some(Some(ordinal)), None) =
+    let (Some(Some(incarnation)), Some(Some(sequence)), Some(Some(ordinal)), None) =
         (parts.next(), parts.next(), parts.next(), parts.next())
     else {
         return None;
     };
-    (incarnation == stored.incarnation).then_some(Receipt { sequence: stored.base.checked_add(place)?, ordinal })
+    (incarnation == stored.incarnation).then_some(Receipt { sequence, ordinal })
 }
 
 /// A reply of the store.
@@ -156,15 +156,15 @@ mod tests {
 
     use crate::queues::ask::Changer;
 
-    const STORED: StoredAs = StoredAs { name: StoreName(7), incarnation: 3, base: 10 };
+    const STORED: StoredAs = StoredAs { name: StoreName(7), incarnation: 3 };
 
     #[test]
     fn receipts_have_three_numbers() {
         let receipt = Receipt { sequence: 12, ordinal: 4 };
         let ask = Ask::ChangeVisibility { receipt, visibility: 9, by: Changer::Client };
         let text = AskFields::of(STORED, &ask).receipt.unwrap();
-        assert_eq!((text.as_ref(), read_receipt(&text, STORED)), ("3-2-4", Some(receipt)));
-        for other in ["1-2-4", "3-2", "3-2-4-", "3-2-x", "", "3-18446744073709551615-4"] {
+        assert_eq!((text.as_ref(), read_receipt(&text, STORED)), ("3-12-4", Some(receipt)));
+        for other in ["1-12-4", "3-12", "3-12-4-", "3-12-x", ""] {
             assert_eq!(read_receipt(other, STORED), None, "{other}");
         }
     }

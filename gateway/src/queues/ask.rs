@@ -107,14 +107,12 @@ pub struct StoredAs {
     pub name: StoreName,
     /// Which queue of this name it is, from 1: the store counts them.
     pub incarnation: u64,
-    /// The store counts its messages from the one behind this.
-    pub base: u64,
 }
 
 impl StoredAs {
-    /// The first queue of this name, with all its messages.
+    /// The first queue of this name.
     pub fn first(name: StoreName) -> StoredAs {
-        StoredAs { name, incarnation: 1, base: 0 }
+        StoredAs { name, incarnation: 1 }
     }
 }
 

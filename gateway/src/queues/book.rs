@@ -42,9 +42,6 @@ pub struct QueueEntry {
     pub store: StoreName,
     pub name: QueueName,
     pub mark: u64,
-    /// How many messages it had been sent when it got this name in the store, which counts from 1.
-    #[serde(default, skip_serializing_if = "is_zero")]
-    pub base: u64,
     pub attributes: QueueAttributes,
     #[serde(default, skip_serializing_if = "BTreeMap::is_empty")]
     pub tags: BTreeMap<String, String>,
@@ -131,7 +128,7 @@ impl QueueEntry {
     ) -> QueueEntry {
         let modified = created;
         let (rescoped, purged, purging) = (None, None, None);
-        QueueEntry { store, name, mark, base: 0, attributes, tags, created, modified, rescoped, purged, purging }
+        QueueEntry { store, name, mark, attributes, tags, created, modified, rescoped, purged, purging }
     }
 }
 

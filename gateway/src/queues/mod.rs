@@ -379,7 +379,7 @@ impl Queues {
     /// The book of this number, of the program at this place, has this entry of this size, about this queue.
     pub fn said(&self, place: usize, queue: &Arc<Queue>, entry: &Entry, book: u64, size: u64) {
         match entry {
-            Entry::Queue(entry) => self.said_of_queue(place, queue, entry, book, size),
+            Entry::Queue(entry) => self.said_of_queue(queue, entry, book, size),
             Entry::Removed(removal) => self.remove(place, queue, removal),
             Entry::Task(_, task) => {
                 self.counted(queue, |state| state.said_of_task(task, book, size));
@@ -441,8 +441,7 @@ impl Queues {
         }
     }
 
-    fn said_of_queue(&self, place: usize, queue: &Arc<Queue>, entry: &QueueEntry, book: u64, size: u64) {
-        let earlier = queue.store_names();
+    fn said_of_queue(&self, queue: &Arc<Queue>, entry: &QueueEntry, book: u64, size: u64) {
         let is_new = !self.find(&queue.name).is_some_and(|found| Arc::ptr_eq(&found, queue));
         let said = if is_new {
             let said = queue.state().said(entry, book, size);
@@ -451,10 +450,6 @@ impl Queues {
         } else {
             self.counted(queue, |state| state.said(entry, book, size))
         };
-        if said.has_gone_over {
-            self.let_delays_go(queue);
-            self.left_over.add(place, earlier);
-        }
         if let (Some(purging), Some(delays)) = (said.purging, queue.delays()) {
             delays.state().purge_with(purging);
         }
@@ -560,7 +555,6 @@ impl Queues {
     fn insert(&self, queue: &Arc<Queue>) {
         let mut queues = self.by_name.write().unwrap_or_else(PoisonError::into_inner);
         queues.insert(queue.name.clone(), queue.clone());
-        // In a replay it may have messages, which are counted by now.
         self.bytes_in_use.fetch_add(queue.state().own_bytes(), Ordering::Relaxed);
     }
 
@@ -590,13 +584,6 @@ impl Queues {
         for queue in queue.delays().iter().map(Arc::as_ref).chain([queue]) {
             let parts = self.counted(queue, State::take_out);
             parts.into_iter().for_each(|number| self.parts.unname(number));
-        }
-    }
-
-    /// A queue that goes over to another name in the store leaves the one beside it behind: nothing is in that one.
-    fn let_delays_go(&self, queue: &Queue) {
-        if let Some(delays) = queue.delays_slot().take() {
-            self.counted(&delays, State::take_out);
         }
     }
 

@@ -117,10 +117,6 @@ impl Attempts {
         }
     }
 
-    pub(super) fn clear(&mut self) {
-        *self = Attempts::default();
-    }
-
     pub(super) fn find(&self, id: &AttemptId, now: Moment) -> Option<&Attempt> {
         self.by_id.get(id).filter(|found| now < found.end())
     }

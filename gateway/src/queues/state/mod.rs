@@ -160,7 +160,7 @@ impl State {
             own_bytes: bytes_of_queue(&entry.attributes, &entry.tags),
             tasks: Vec::new(),
             removed: false,
-            last_sequence: entry.base,
+            last_sequence: 0,
             last_send: 0,
             openings: 0,
             messages: Messages::default(),
@@ -182,7 +182,7 @@ impl State {
 
     /// How it stands in the store.
     pub fn stored_as(&self) -> StoredAs {
-        StoredAs { name: self.entry.store, incarnation: self.incarnation, base: self.entry.base }
+        StoredAs { name: self.entry.store, incarnation: self.incarnation }
     }
 
     /// Applies the store's reply to an ask of `moment`.
@@ -200,11 +200,11 @@ impl State {
                 Err(SqsError::of_no_message())
             }
             (_, StoreReply::Refused(code)) => Err(SqsError::of_refusal(code)),
-            (Ask::Send { group, dedup, envelope, cause }, StoreReply::Sent(place)) => {
+            (Ask::Send { group, dedup, envelope, cause }, StoreReply::Sent(sequence)) => {
                 let fingerprint = self.fingerprint_of(dedup);
-                let applied = self.sent(group, envelope, *cause, place, RecentSend { moment, fingerprint })?;
+                let applied = self.sent(group, envelope, *cause, sequence, RecentSend { moment, fingerprint })?;
                 if *cause == Cause::Client && self.kind == QueueKind::Standard && self.entry.store.main().is_none() {
-                    self.calls.remember(dedup, First::Stored(self.entry.base + place), moment);
+                    self.calls.remember(dedup, First::Stored(sequence), moment);
                 }
                 Ok(applied)
             }
@@ -231,10 +231,10 @@ impl State {
         group: &GroupId,
         envelope: &Envelope,
         cause: Cause,
-        place: u64,
+        sequence: u64,
         send: RecentSend,
     ) -> Result<Applied, SqsError> {
-        let (sequence, moment) = (self.entry.base + place, send.moment);
+        let moment = send.moment;
         if sequence <= self.last_sequence {
             return Ok(Applied::unchanged(Outcome::Sent { sequence, id: None }));
         }
@@ -518,19 +518,6 @@ impl State {
     /// What the queue's policy says of dead letters, if it has one.
     pub fn redrive(&self) -> Option<&RedrivePolicy> {
         self.redrive.as_ref()
-    }
-
-    /// Has gone over to another name of the store, which counts from 1 again.
-    fn go_over(&mut self) {
-        self.last_sequence = self.entry.base;
-        self.recent = VecDeque::new();
-        self.sends_by_id = SendsById::default();
-        self.left_ids = 0;
-        self.messages = Messages::default();
-        self.groups = self.groups_of_delayed();
-        self.envelope_bytes = 0;
-        self.sizes = Sizes::default();
-        self.attempts.clear();
     }
 }
 

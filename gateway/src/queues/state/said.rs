@@ -15,8 +15,6 @@ use crate::queues::book::{Entry, Purging, QueueEntry, Removal};
 pub struct Said {
     /// Something that can open a group.
     pub has_opened: bool,
-    /// The name in the store.
-    pub has_gone_over: bool,
     /// Which messages are being deleted.
     pub purging: Option<Option<Purging>>,
 }
@@ -70,12 +68,8 @@ impl State {
         (self.said_in, self.entry_size) = (book, size);
         let said = Said {
             has_opened: before.attributes != entry.attributes,
-            has_gone_over: before.store != entry.store,
             purging: (before.purging != entry.purging).then_some(entry.purging),
         };
-        if said.has_gone_over {
-            self.go_over();
-        }
         if said.has_opened {
             self.redrive = entry.attributes.redrive();
             self.set_delay(delay_of_all(self.kind, &entry.attributes));

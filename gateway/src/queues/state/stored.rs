@@ -30,12 +30,12 @@ impl State {
         keeps_copies: bool,
     ) -> Named {
         self.incarnation = stored.incarnation;
-        self.last_sequence = self.entry.base + stored.sent;
+        self.last_sequence = stored.sent;
         let (mut named, mut texts) = (Named::default(), HashMap::new());
         self.messages.expect(stored.messages.len());
         for mut message in stored.messages {
             let text = if keeps_copies { message.text.clone() } else { message.text.take() };
-            texts.extend(text.map(|text| (self.entry.base + message.sequence, text)));
+            texts.extend(text.map(|text| (message.sequence, text)));
             let (part, origin) = self.take_up_message(message);
             named.parts.extend(part);
             named.origins.extend(origin);
@@ -52,19 +52,17 @@ impl State {
         }
         self.take_up_sends(&stored.accepted);
         if self.kind == QueueKind::Standard && self.entry.store.main().is_none() {
-            let base = self.entry.base;
-            self.calls.take_up(calls_of(&stored.accepted, last, |sequence| First::Stored(base + sequence)));
+            self.calls.take_up(calls_of(&stored.accepted, last, First::Stored));
         }
         named
     }
 
     /// Takes up a message. Tells its parts, and what it is the copy of.
     fn take_up_message(&mut self, stored: StoredMessage) -> (Option<u64>, Option<Origin>) {
-        let StoredMessage { group, head, handings, handed, until, text, .. } = stored;
+        let StoredMessage { sequence, group, head, handings, handed, until, text, bytes } = stored;
         let head = head.into_head();
-        let sequence = self.entry.base + stored.sequence;
         let source = head.source.map(Arc::new);
-        let bytes = stored.bytes + head.bytes.unwrap_or(0);
+        let bytes = bytes + head.bytes.unwrap_or(0);
         let mut message = Message::new(head.sent, group, source, bytes).in_parts(head.parts);
         message.ordinal = handings;
         // Of the handings the store has the last one alone.
@@ -105,9 +103,7 @@ impl State {
 
     /// What an attempt was given by a request that handed out these messages, if they are all in flight since then. What wasn't
     /// for the client isn't among them: it comes back by itself.
-    fn untold_attempt(&self, id: AttemptId, handings: Vec<(u64, u64)>) -> Option<AttemptEntry> {
-        let base = self.entry.base;
-        let handed: Vec<_> = handings.into_iter().map(|(sequence, ordinal)| (base + sequence, ordinal)).collect();
+    fn untold_attempt(&self, id: AttemptId, handed: Vec<(u64, u64)>) -> Option<AttemptEntry> {
         let (moment, until) = handed.iter().find_map(|(sequence, _)| {
             let message = self.messages.get(*sequence)?;
             Some((message.last?.moment, message.until()))
@@ -129,7 +125,7 @@ impl State {
     fn take_up_sends(&mut self, sends: &[AcceptedSend]) {
         self.last_send = sends.last().map_or(0, |last| last.moment);
         for send in sends.iter().rev() {
-            if self.entry.base + send.sequence + 1 != self.first_recent() {
+            if send.sequence + 1 != self.first_recent() {
                 break;
             }
             let fingerprint = if self.kind == QueueKind::Fifo { send.fingerprint } else { 0 };

@@ -14,7 +14,7 @@ use crate::lines::AskFields;
 use crate::queues::ask::{Ask, Cause, Outcome, StoreName, StoredAs, TableChange};
 use crate::queues::book::{self, AttemptRequest};
 use crate::queues::Queue;
-use crate::store::{Answer, Operation};
+use crate::store::Operation;
 use crate::texts::{DedupId, QueueKind};
 
 impl Task {
@@ -32,9 +32,8 @@ impl Task {
                 _ if is_late => StartOutcome::ready(Err(too_late())),
                 (Some(queue), Some(Operation::Ask(ask))) => self.start_ask(queue, ask)?,
                 (Some(queue), Some(Operation::AskBeside(ask))) => match queue.delays() {
-                    Some(delays) if !delays.state().removed => self.start_ask(delays, ask)?,
-                    // It went meanwhile, or its queue goes over to another name.
-                    _ => StartOutcome::ready(Err(without_delays(&queue))),
+                    Some(delays) => self.start_ask(delays, ask)?,
+                    None => StartOutcome::ready(Err(SqsError::QueueDoesNotExist)),
                 },
                 (Some(queue), Some(Operation::Change(change))) => self.start_change(queue, change)?,
                 (Some(queue), Some(Operation::Say(entry))) => self.start_saying(queue, entry, 0)?,
@@ -86,9 +85,6 @@ impl Task {
         // The store may have it for a while.
         if removed {
             return ready(Err(SqsError::QueueDoesNotExist));
-        }
-        if let Some(answer) = answer_about_earlier(&ask, stored.base) {
-            return ready(answer);
         }
         let ask = match within_reach(ask, &queue, moment) {
             Ok(ask) => ask,
@@ -404,15 +400,6 @@ fn without_book() -> SqsError {
     SqsError::ServiceUnavailable("The journal has had no room for a book so far.".into())
 }
 
-/// Why nothing can be sent to a queue with a delay.
-fn without_delays(queue: &Queue) -> SqsError {
-    if queue.state().removed {
-        SqsError::QueueDoesNotExist
-    } else {
-        SqsError::ServiceUnavailable("The queue goes over to another name in the store.".into())
-    }
-}
-
 /// The receive of as many messages as it may be handed at this moment, or its answer where there are none.
 fn within_reach(mut ask: Ask, queue: &Queue, now: Moment) -> Result<Ask, Outcome> {
     if let Ask::Receive { size, reach, .. } = &mut ask {
@@ -429,13 +416,4 @@ fn within_reach(mut ask: Ask, queue: &Queue, now: Moment) -> Result<Ask, Outcome
         }
     }
     Ok(ask)
-}
-
-/// What is answered about a message that the queue had before it went over to its name in the store. It is deleted.
-fn answer_about_earlier(ask: &Ask, base: u64) -> Option<Answer> {
-    match ask {
-        Ask::Delete { receipt, .. } if receipt.sequence <= base => Some(Ok(Outcome::Done)),
-        Ask::ChangeVisibility { receipt, .. } if receipt.sequence <= base => Some(Err(SqsError::of_no_message())),
-        _ => None,
-    }
 }
