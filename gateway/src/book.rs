@@ -171,7 +171,7 @@ async fn say_program(store: &Store, place: usize) -> Result<(), SqsError> {
 
 fn program_entry(store: &Store, place: usize) -> ProgramEntry {
     let secret = store.queues().secret_to_say(place);
-    ProgramEntry { place, count: store.places().len() as u32, secret }
+    ProgramEntry::new(place, store.places().len() as u32, secret)
 }
 
 fn is_for_now(error: &SqsError) -> bool {

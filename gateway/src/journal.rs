@@ -15,6 +15,7 @@ use rustix::fs::{fallocate, flock, fstatfs, FallocateFlags, FlockOperation, OFla
 use thiserror::Error;
 
 use crate::cq::{KeptFile, Making};
+use crate::queues::book::FORM;
 use crate::queues::shards::Shards;
 
 /// Why the files of a journal can't be used.
@@ -88,24 +89,40 @@ pub struct Lock {
     file: File,
 }
 
-/// What stands in the lock once the file of each program has requests.
-const HAS_REQUESTS: &[u8] = b"hobbychair: each file of this journal has requests\n";
+/// What stands in the lock once the file of each program has requests. Behind it stands of which form the books are.
+const HAS_REQUESTS: &str = "hobbychair: each file of this journal has requests\n";
+
+/// What this build notes in the lock.
+fn note() -> String {
+    format!("{HAS_REQUESTS}form {FORM}\n")
+}
 
 impl Lock {
-    /// Notes for good that the file of each program has requests. From then on one that has none isn't the one that was there.
+    /// Notes for good that the file of each program has requests, and that their books are of this build's form. From then on a
+    /// file that has no requests isn't the one that was there.
     pub fn note_requests(&self) -> io::Result<()> {
-        let mut noted = vec![0; HAS_REQUESTS.len()];
-        if self.file.read_exact_at(&mut noted, 0).is_ok() && noted == HAS_REQUESTS {
+        let note = note().into_bytes();
+        let mut noted = vec![0; note.len()];
+        if self.file.read_exact_at(&mut noted, 0).is_ok() && noted == note {
             return Ok(());
         }
-        self.file.write_all_at(HAS_REQUESTS, 0)?;
+        self.file.write_all_at(&note, 0)?;
         self.file.sync_all()
     }
 }
 
 /// Whether it was noted of the journal of this path that the file of each program has requests.
 pub fn has_had_requests(path: &Path) -> io::Result<bool> {
-    Ok(front_of(&lock_of(path))?.is_some_and(|front| front.starts_with(HAS_REQUESTS)))
+    lock_begins_with(path, HAS_REQUESTS)
+}
+
+/// Whether it was noted of the journal of this path that its books are of this build's form.
+pub fn has_own_form(path: &Path) -> io::Result<bool> {
+    lock_begins_with(path, &note())
+}
+
+fn lock_begins_with(path: &Path, text: &str) -> io::Result<bool> {
+    Ok(front_of(&lock_of(path))?.is_some_and(|front| front.starts_with(text.as_bytes())))
 }
 
 /// Why a file of a journal isn't taken that has no requests, and had some.
@@ -567,7 +584,7 @@ pub mod tests {
         (2..=3).for_each(|number| std::fs::remove_file(room.0.join(format!("j.cq{number}"))).unwrap());
         room.put("j.lock", b"");
         assert_eq!(files(&room, 3).is_there(), Ok(false));
-        room.put("j.lock", HAS_REQUESTS);
+        room.put("j.lock", HAS_REQUESTS.as_bytes());
         for _ in 0..2 {
             assert_eq!(files(&room, 3).is_there(), Err(lost(&room.0.join("j"))));
             // Whatever this is, it hasn't got the requests.
@@ -590,5 +607,19 @@ pub mod tests {
         let room = Room::new("named");
         assert!(matches!(test_path(&room.0), Err(JournalError::IsFolder(_))));
         assert!(matches!(test_path(&room.0.join("a/b")), Err(JournalError::NoFolder { .. })));
+    }
+
+    #[test]
+    fn the_lock_notes_that_there_were_requests_and_the_form_of_their_books() {
+        let (room, path) = (Room::new("noted"), |room: &Room| room.0.join("j"));
+        let noted = |room: &Room| (has_had_requests(&path(room)).unwrap(), has_own_form(&path(room)).unwrap());
+        let lock = files(&room, 1).lock().unwrap();
+        assert_eq!(noted(&room), (false, false));
+        for other in ["", "form 0\n", "form 99\n"] {
+            room.put("j.lock", format!("{HAS_REQUESTS}{other}").as_bytes());
+            assert_eq!(noted(&room), (true, false), "{other:?}");
+            lock.note_requests().unwrap();
+            assert_eq!(noted(&room), (true, true));
+        }
     }
 }

@@ -3,7 +3,7 @@
 use std::cell::Cell;
 use std::io::Write;
 use std::os::unix::io::RawFd;
-use std::path::PathBuf;
+use std::path::{Path, PathBuf};
 use std::sync::atomic::AtomicU64;
 use std::sync::{Arc, OnceLock};
 use std::time::Duration;
@@ -25,8 +25,8 @@ use crate::cq::{test_built, test_version, Cq};
 use crate::delays;
 use crate::ending::End;
 use crate::http::{is_of_this_machine, listen, shared, test_free, Addresses, Door, Hosts, Places, Service};
-use crate::journal::{emptied, has_had_requests, has_one_name, take_space, test_path, Files, Lock};
-use crate::journal_file::refuse_other_forms;
+use crate::inspect::refuse_other_builds;
+use crate::journal::{emptied, has_had_requests, has_one_name, take_space, Files, JournalError, Lock};
 use crate::metrics::Metrics;
 use crate::move_tasks;
 use crate::moves;
@@ -34,7 +34,7 @@ use crate::parts;
 use crate::peek::Peeks;
 use crate::purges;
 use crate::queues::shards::Shards;
-use crate::queues::{Image, Queues};
+use crate::queues::{Image, ImageError, Queues};
 use crate::retention;
 use crate::store::{self, Ends, Kept, NodeStart, Ready, Start, Store, ToldError};
 use crate::tls::Certificate;
@@ -298,8 +298,8 @@ struct Begun {
 /// Has the files of the journal be there. Nobody else has them for as long as what this gives is kept. Those of another build stay
 /// as they are.
 async fn take_journal(settings: &Settings, files: &Files) -> Result<Lock> {
-    test_path(files.path())?;
-    refuse_other_forms(files.path())?;
+    let (program, path) = (settings.program.clone(), files.path().to_path_buf());
+    tokio::task::spawn_blocking(move || refuse_other_builds(&program, &path)).await??;
     let lock = files.lock()?;
     if !files.is_there()? {
         let made = make_files(settings, files).await;
@@ -365,7 +365,7 @@ async fn begin_kept(settings: &Arc<Settings>, files: &Files, tables: (&Arc<Clock
         kept.begun.push(image.largest_number());
         kept.entries.push(ready.entries);
         cqs.push(ready.cq);
-        queues.take_up(shard, image).with_context(|| file.path.display().to_string())?;
+        queues.take_up(shard, image).map_err(|why| not_taken_up(&file.path, why))?;
         kept.files.push(file);
     }
     clock.go_on_from(last);
@@ -374,6 +374,14 @@ async fn begin_kept(settings: &Arc<Settings>, files: &Files, tables: (&Arc<Clock
         say(&format!("took up {entries} requests of the journal"));
     }
     Ok(Begun { cqs, node: None, kept: Some(kept), last, _lock: Some(lock) })
+}
+
+fn not_taken_up(file: &Path, why: ImageError) -> anyhow::Error {
+    let file = file.display().to_string();
+    match why {
+        ImageError::OtherForm(_) => JournalError::OtherForm(file, why.to_string()).into(),
+        _ => anyhow::Error::new(why).context(file),
+    }
 }
 
 /// Takes up the store that the node tells, as far as the head has it. All of that will be in the chain's list as long as this

@@ -14,7 +14,7 @@ from pathlib import Path
 import pytest
 
 from conftest import new_name
-from started import START, ByBoto3, ByJson, Refused, Started, command, environment, program, run
+from started import START, TOP, ByBoto3, ByJson, Refused, Started, command, environment, program, run
 from test_operations import get, metric
 
 LEAD = "hobbychair_clock_lead_seconds"
@@ -197,6 +197,35 @@ def test_a_file_of_a_session_is_refused_by_its_name(tmp_path, length):
         os.truncate(file, length)
     for said in refusals(tmp_path / "journal"):
         assert said.startswith(f"hobbychair: {file} is no journal of this build") and UPGRADE in said, said
+
+
+def with_book(file: Path, form: int) -> None:
+    """Makes a journal whose book says that it has this form. Earlier builds said none."""
+    said = {"place": 0, "count": 1, "secret": "00000000-0000-0000-0000-000000000000", **({"form": form} if form else {})}
+    texts = {"1.fifo": "no envelope", "book1.fifo": json.dumps({"program": said}, separators=(",", ":"))}
+    asks = [{"queue": queue, **more} for queue, body in texts.items()
+            for more in ({"kind": "create"}, {"kind": "send", "group": "g", "dedup": "1", "body": body})]
+    lines = (json.dumps({"op": "arrive", "clock": 5, "client": 1, "number": number, "ask": ask}) for number, ask in enumerate(asks, 1))
+    frames = subprocess.run([TOP / "check" / "frames"], input="\n".join(lines).encode(), capture_output=True, check=True).stdout
+    server = [program(), "server", "--id", "1", "--first", "1", "--journal", str(file), "--journal-size", "96"]
+    subprocess.run(server, input=frames, stdout=subprocess.DEVNULL, check=True)
+
+
+@pytest.mark.parametrize("form", [0, 2])
+def test_a_book_of_another_form_is_refused_by_its_files_name(journal, form):
+    file, lock = journal.with_name("journal.cq1"), journal.with_name("journal.lock")
+    noted = lock.read_text()
+    file.unlink()
+    with_book(file, form)
+    for note in ("", "hobbychair: each file of this journal has requests\n", None):
+        lock.unlink() if note is None else lock.write_text(note)
+        for said in refusals(journal, "verify", "backup"):
+            assert said.startswith(f"hobbychair: {file} is no journal of this build") and UPGRADE in said, said
+            assert f"its book has the form {form}, and those of this build have 1" in said
+    # Where another file has taken the place of one of this build, `cq` has opened it by then.
+    lock.write_text(noted)
+    assert f"its book has the form {form}" in start(journal).stderr
+    assert json.loads(run("dump", str(journal)).stdout.splitlines()[-1]) == {"entries": 4, "kind": "entries"}
 
 
 def test_a_journal_whose_making_is_cut_off_is_made_again(tmp_path):

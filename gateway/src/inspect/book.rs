@@ -7,8 +7,10 @@ use std::process::{Command, Stdio};
 use anyhow::{Context, Result};
 use serde::Deserialize;
 
+use crate::journal::JournalError;
 use crate::queues::ask::StoreName;
-use crate::queues::book::{Entry, ProgramEntry};
+use crate::queues::book::{form_said_by, Entry, ProgramEntry, FORM};
+use crate::queues::ImageError;
 use crate::store_bytes::{Part, StoreReader};
 
 /// A line of `cq dump` that tells a chunk of a store.
@@ -25,14 +27,17 @@ struct BookReader {
     /// Whether messages that come next are entries of a book.
     is_in_book: bool,
     program: Option<ProgramEntry>,
+    /// Of a book of another build.
+    other_form: Option<u32>,
 }
 
 impl BookReader {
     fn feed(&mut self, chunk: &[u8]) -> Result<()> {
-        let BookReader { store, is_in_book, program } = self;
+        let BookReader { store, is_in_book, program, other_form } = self;
         store.feed(chunk, |part| match part {
             Part::Name { name, .. } => *is_in_book = StoreName::parse(name).is_some_and(|name| name.book().is_some()),
             Part::Message { body, .. } if *is_in_book => {
+                *other_form = other_form.or(form_said_by(body).filter(|form| *form != FORM));
                 if let Ok(Entry::Program(entry)) = serde_json::from_str(body) {
                     *program = Some(entry);
                 }
@@ -43,8 +48,8 @@ impl BookReader {
     }
 }
 
-/// Which program keeps a file, as the book in its store says last; none where it says nothing of that. It takes time in proportion
-/// to the store.
+/// Which program keeps a file, as the book in its store says last; none where it says nothing of that. A book of another build is
+/// refused. It takes time in proportion to the store.
 pub fn program_of(program: &str, file: &Path) -> Result<Option<ProgramEntry>> {
     let mut dump = Command::new(program);
     dump.arg("dump").arg(file).stdin(Stdio::null()).stdout(Stdio::piped()).stderr(Stdio::null());
@@ -56,7 +61,12 @@ pub fn program_of(program: &str, file: &Path) -> Result<Option<ProgramEntry>> {
     let ended = process.wait()?;
     read.with_context(|| file.display().to_string())?;
     anyhow::ensure!(ended.success(), "{}: cq can't tell what it has", file.display());
-    Ok(reader.program)
+    match reader.other_form {
+        Some(form) => {
+            Err(JournalError::OtherForm(file.display().to_string(), ImageError::OtherForm(form).to_string()).into())
+        }
+        None => Ok(reader.program),
+    }
 }
 
 /// Lines that tell no chunk are passed over.

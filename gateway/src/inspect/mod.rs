@@ -10,7 +10,9 @@ use anyhow::{anyhow, bail, Context, Result};
 use serde::Deserialize;
 
 use crate::disk::{lack_of_space, taken};
-use crate::journal::{emptied, file_of, files_of, has_had_requests, lost, test_path, JournalError};
+use crate::journal::{
+    emptied, file_of, files_found, files_of, has_had_requests, has_own_form, lost, test_path, JournalError,
+};
 use crate::journal_file::refuse_other_forms;
 
 /// What `cq verify` says of a file of a server.
@@ -20,6 +22,23 @@ struct Found {
     records: u64,
     /// All for which its store stands, and those behind it.
     entries: u64,
+}
+
+/// Refuses what another build left by the path of a journal, before a program opens it. What else is wrong is told by that one.
+/// Books aren't read whose form was noted as this build's.
+pub fn refuse_other_builds(program: &str, path: &Path) -> Result<()> {
+    test_path(path)?;
+    refuse_other_forms(path)?;
+    if has_own_form(path)? {
+        return Ok(());
+    }
+    for file in files_found(path)? {
+        match book::program_of(program, &file) {
+            Err(error) if error.is::<JournalError>() => return Err(error),
+            _ => {}
+        }
+    }
+    Ok(())
 }
 
 /// The files of a journal that is there.
@@ -70,14 +89,14 @@ fn verify_copy(program: &str, path: &Path, copy: &Path, out: &mut impl Write) ->
             return Err(emptied(path, file).into());
         }
     }
-    test_count(program, copy, &files)?;
+    test_books(program, copy, &files)?;
     Ok(writeln!(out, "undamaged")?)
 }
 
-/// Refuses the files of a journal of which more programs have one, as a book says.
-fn test_count(program: &str, path: &Path, files: &[PathBuf]) -> Result<()> {
-    let mut told = files.iter().filter_map(|file| book::program_of(program, file).transpose());
-    let Some(told) = told.next().transpose()? else { return Ok(()) };
+/// Refuses the files of a journal of which more programs have one, as a book says, or of which one has a book of another build.
+fn test_books(program: &str, path: &Path, files: &[PathBuf]) -> Result<()> {
+    let told = files.iter().map(|file| book::program_of(program, file)).collect::<Result<Vec<_>>>()?;
+    let Some(told) = told.into_iter().flatten().next() else { return Ok(()) };
     let mut lacks = (1..=told.count).skip(files.len()).map(|number| file_of(path, number.into()));
     match lacks.next() {
         Some(file) => Err(JournalError::Lacks(file.display().to_string(), told.count).into()),
@@ -110,7 +129,7 @@ pub fn back_up(program: &str, path: &Path, copy: &Path, out: &mut impl Write) ->
         bail!("{} is there: a copy needs a name that nothing has", file.display());
     }
     test_path(copy)?;
-    test_count(program, path, &files)?;
+    test_books(program, path, &files)?;
     // A copy has what can be read: nobody could see there what a damaged file has lost.
     for file in &files {
         ask(program, "verify", &[file], Stdio::piped())?;

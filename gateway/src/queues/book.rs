@@ -81,6 +81,32 @@ pub struct ProgramEntry {
     pub count: u32,
     /// By this the sends of copies to its queues are known from those of clients.
     pub secret: Uuid,
+    /// That of the book, and of all else that the gateway has in the store.
+    pub form: u32,
+}
+
+/// The form that books have which this build writes. It reads no others.
+pub const FORM: u32 = 1;
+
+impl ProgramEntry {
+    pub fn new(place: usize, count: u32, secret: Uuid) -> ProgramEntry {
+        ProgramEntry { place, count, secret, form: FORM }
+    }
+}
+
+/// The form of a book, as an entry of any build says it: 0 where it says which program has the book, and no form.
+pub fn form_said_by(entry: &str) -> Option<u32> {
+    #[derive(Deserialize)]
+    struct Said {
+        program: Program,
+    }
+    #[derive(Deserialize)]
+    struct Program {
+        #[serde(default)]
+        form: u32,
+    }
+    let may_say = entry.starts_with("{\"program\":");
+    may_say.then(|| serde_json::from_str::<Said>(entry).ok()).flatten().map(|said| said.program.form)
 }
 
 /// What a receive with an attempt id was given, out of the queue of this mark. It counts as long as its messages are in

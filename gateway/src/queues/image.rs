@@ -11,7 +11,7 @@ use std::sync::Arc;
 use thiserror::Error;
 
 use super::ask::StoreName;
-use super::book::{size_of_text, AttemptEntry, AttemptRequest, Entry};
+use super::book::{form_said_by, size_of_text, AttemptEntry, AttemptRequest, Entry, FORM};
 use super::groups::Group;
 use super::shards::Shard;
 use super::{Queue, Queues};
@@ -29,6 +29,8 @@ pub enum ImageError {
     Bytes(#[from] Fault),
     #[error("the store has {0} as no gateway leaves it: {1}")]
     Foreign(String, &'static str),
+    #[error("its book has the form {0}, and those of this build have {own}", own = FORM)]
+    OtherForm(u32),
 }
 
 /// Of clients whose last request handed messages out: its number, and the sequence number and the ordinal of each handing.
@@ -48,6 +50,8 @@ pub struct Image {
     current: Option<StoreName>,
     /// The numbers of parts that were removed, and when.
     removed_parts: Vec<(u64, Moment)>,
+    /// A queue that has a message which is no envelope. In the store of another build there may be such, and its book says of which.
+    foreign: Option<StoreName>,
     /// How many bytes of messages in flight are kept, since attempts may have been given them.
     in_flight: usize,
     /// Rises by each byte that is read and each message of the tables, so that others see that this moves on.
@@ -160,14 +164,9 @@ impl Image {
     pub fn feed(&mut self, chunk: &[u8]) -> Result<(), ImageError> {
         self.far.fetch_add(chunk.len() as u64, Ordering::Relaxed);
         let mut reader = std::mem::take(&mut self.reader);
-        let mut taken = Ok(());
-        reader.feed(chunk, |part| {
-            if taken.is_ok() {
-                taken = self.take(&part);
-            }
-        })?;
+        reader.feed(chunk, |part| self.take(&part))?;
         self.reader = reader;
-        taken
+        Ok(())
     }
 
     /// The moment of the last entry that the store took, or 0.
@@ -180,7 +179,7 @@ impl Image {
         self.largest_number
     }
 
-    fn take(&mut self, part: &Part<'_>) -> Result<(), ImageError> {
+    fn take(&mut self, part: &Part<'_>) {
         match part {
             Part::Start { last, .. } => self.last = *last,
             Part::Client { client, number, handed } => {
@@ -190,8 +189,8 @@ impl Image {
                     self.handed.insert(*client, (*number, receipts));
                 }
             }
-            Part::Name { .. } => self.take_name(part)?,
-            Part::Message { .. } => self.take_message(part)?,
+            Part::Name { .. } => self.take_name(part),
+            Part::Message { .. } => self.take_message(part),
             Part::Accepted { id, moment, sequence } => {
                 if let Some(queue) = self.current_queue() {
                     let (call, copy) = (CallKey::of(id), CopyId::read(id));
@@ -201,12 +200,11 @@ impl Image {
             }
             Part::End => {}
         }
-        Ok(())
     }
 
     /// Names that aren't the gateway's are passed over.
-    fn take_name(&mut self, part: &Part<'_>) -> Result<(), ImageError> {
-        let Part::Name { name, creations, removed, queue } = *part else { return Ok(()) };
+    fn take_name(&mut self, part: &Part<'_>) {
+        let Part::Name { name, creations, removed, queue } = *part else { return };
         self.current = StoreName::parse(name);
         if let Some(store) = self.current {
             if let (Some(number), Some(removed), None) = (store.parts(), removed, queue) {
@@ -218,25 +216,27 @@ impl Image {
             };
             self.names.insert(store, StoredName { creations, removed, queue: queue.map(of_queue) });
         }
-        Ok(())
     }
 
     fn current_queue(&mut self) -> Option<&mut StoredQueue> {
         self.names.get_mut(&self.current?)?.queue.as_mut()
     }
 
-    fn take_message(&mut self, part: &Part<'_>) -> Result<(), ImageError> {
-        let Part::Message { sequence, group, body, handings, handed, until } = *part else { return Ok(()) };
+    fn take_message(&mut self, part: &Part<'_>) {
+        let Part::Message { sequence, group, body, handings, handed, until } = *part else { return };
         let is_in_flight = until > self.last && self.in_flight + body.len() <= MOST_IN_FLIGHT;
         if is_in_flight {
             self.in_flight += body.len();
         }
         let (is_kept, store) = (self.keeps_copies || is_in_flight, self.current);
-        let (Some(store), Some(queue)) = (store, self.current_queue()) else { return Ok(()) };
+        let (Some(store), Some(queue)) = (store, self.current_queue()) else { return };
         if store.book().is_some() {
             queue.entries.push(body.into());
         } else if store.parts().is_none() {
-            let head = EnvelopeHead::of(body).ok_or_else(|| no_envelope(store))?;
+            let Some(head) = EnvelopeHead::of(body) else {
+                self.foreign = Some(store);
+                return;
+            };
             queue.messages.push(StoredMessage {
                 sequence,
                 group: Group::of(group),
@@ -248,12 +248,7 @@ impl Image {
                 text: is_kept.then(|| (group.into(), body.into())),
             });
         }
-        Ok(())
     }
-}
-
-fn no_envelope(store: StoreName) -> ImageError {
-    ImageError::Foreign(store.text(), "a message of it is no envelope")
 }
 
 impl Queues {
@@ -269,6 +264,10 @@ impl Queues {
         self.names.find(place, names.map(|(name, stored)| (*name, stored.creations, stored.gone())));
         let living = image.names.into_iter().filter_map(|(name, stored)| Some((name, stored.queue?)));
         let (books, mut living): (BTreeMap<_, _>, BTreeMap<_, _>) = living.partition(|(name, _)| name.book().is_some());
+        test_forms(&books)?;
+        if let Some(store) = image.foreign {
+            return Err(ImageError::Foreign(store.text(), "a message of it is no envelope"));
+        }
         let Told { by_mark, mut attempts, mut asked, .. } = self.take_up_books(shard, books)?;
         let is_there = |queue: &Arc<Queue>| self.find(&queue.name).is_some_and(|found| Arc::ptr_eq(&found, queue));
         for (mark, queue) in by_mark.into_iter().filter(|(_, queue)| is_there(queue)) {
@@ -347,6 +346,13 @@ impl Queues {
         delays.state().purge_with(purging);
         self.alarms.set_next(delays);
     }
+}
+
+/// Refuses books of another build, before anything of that is read as if it were of this one.
+fn test_forms(books: &BTreeMap<StoreName, StoredQueue>) -> Result<(), ImageError> {
+    let entries = books.values().flat_map(|book| &book.entries);
+    let other = entries.filter_map(|text| form_said_by(text)).find(|form| *form != FORM);
+    other.map_or(Ok(()), |form| Err(ImageError::OtherForm(form)))
 }
 
 /// What an attempt was given by a request that is its client's last one.

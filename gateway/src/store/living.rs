@@ -251,7 +251,7 @@ impl Living {
             of_mark.is_some_and(|queue| self.shards.place_of(&queue.name) == place)
         });
         of_place.collect::<Vec<_>>().into_iter().for_each(|entry| self.say(&self.nameless(), place, entry));
-        let program = ProgramEntry { place, count: self.shards.count(), secret: secret_of(place) };
+        let program = ProgramEntry::new(place, self.shards.count(), secret_of(place));
         self.say(&self.nameless(), place, Entry::Program(program));
     }
 

@@ -97,7 +97,7 @@ fn given_by(request: (u32, u64), ordinal: u64, until: Moment) -> Option<Vec<Rece
     let id = AttemptId::parse("x").unwrap();
     let (client, number) = request;
     let asked = AttemptRequest { mark: 8, id: id.clone(), moment: 900, client, number };
-    let program = ProgramEntry { place: 0, count: 1, secret: uuid::Uuid::nil() };
+    let program = ProgramEntry::new(0, 1, uuid::Uuid::nil());
     let entries = [Entry::Program(program), Entry::Queue(entry), Entry::Asked(asked)];
     let (group, mut bytes, mut handed) = ("g", chunk(), Vec::new());
     let queue = |sent| Some(QueuePart { incarnation: 1, timeout: 30, makes_ids: false, sent, uses: 9, last: 1000 });
@@ -131,4 +131,34 @@ fn what_an_attempt_was_given_by_its_clients_last_request_is_known_though_no_book
     assert_eq!([(3, 6), (3, 8), (4, 7)].map(|request| given_by(request, 1, 31_000)), [None, None, None]);
     // A message was handed out again since then, or its timeout is over.
     assert_eq!([given_by((3, 7), 2, 31_000), given_by((3, 7), 1, 1000)], [None, None]);
+}
+
+/// What comes of taking up a store with this message, whose one book has this entry.
+fn taken_up(message: &str, entry: &str) -> Result<(), ImageError> {
+    let mut bytes = chunk();
+    let mut write = |part: &Part<'_>| append(&mut bytes, part);
+    write(&Part::Start { entries: 4, last: 1000 });
+    for (name, body) in [("1.fifo", message), ("book1.fifo", entry)] {
+        let queue = Some(QueuePart { incarnation: 1, timeout: 30, makes_ids: false, sent: 1, uses: 1, last: 1000 });
+        write(&Part::Name { name, creations: 1, removed: None, queue });
+        write(&Part::Message { sequence: 1, group: "g", body, handings: 0, handed: 0, until: 0 });
+    }
+    write(&Part::End);
+    let mut image = Image::new(false);
+    image.feed(&bytes).unwrap();
+    Queues::new(false).take_up(Shards::ONE.all().next().unwrap(), image)
+}
+
+#[test]
+fn a_book_of_another_form_is_refused_whatever_else_is_there() {
+    let own = Entry::Program(ProgramEntry::new(0, 1, uuid::Uuid::nil())).text().unwrap();
+    let earlier = own.replace(&format!(",\"form\":{FORM}"), "");
+    let later = format!("{{\"program\":{{\"form\":{},\"of\":\"another kind\"}}}}", FORM + 1);
+    assert!(own.ends_with(&format!(",\"form\":{FORM}}}}}")) && taken_up("{\"sent\":1}\nb", &own).is_ok(), "{own}");
+    assert!(matches!(taken_up("{\"elsewhere\":true}", &own), Err(ImageError::Foreign(..))));
+    assert!(matches!(taken_up("{\"sent\":1}\nb", "{\"none\":[1,[]]}"), Err(ImageError::Foreign(..))));
+    for message in ["{\"sent\":1}\nb", "{\"elsewhere\":true}"] {
+        assert!(matches!(taken_up(message, &earlier), Err(ImageError::OtherForm(0))), "{earlier}");
+        assert!(matches!(taken_up(message, &later), Err(ImageError::OtherForm(form)) if form == FORM + 1), "{later}");
+    }
 }
