@@ -230,20 +230,12 @@ impl Books {
         found.into_iter().for_each(|book| book.order = Some(order));
     }
 
-    /// Whether all but the one that is written to say which one they are. Else their numbers tell their order.
-    pub fn are_ordered(&self, place: usize) -> bool {
-        let books = self.books();
-        let earlier = books.get(&place).and_then(|books| books.split_last()).map_or(&[][..], |(_, earlier)| earlier);
-        earlier.iter().all(|book| book.order.is_some())
-    }
-
     /// Which one the book that is written to is, where that is to be said before the next one is begun.
     pub fn order_to_say(&self, place: usize) -> Option<u64> {
         let books = self.books();
         let (current, earlier) = books.get(&place)?.split_last()?;
-        let before = earlier.iter().map(|book| book.order).max().unwrap_or(Some(0))?;
-        let is_ordered = earlier.iter().all(|book| book.order.is_some());
-        (is_ordered && current.order.is_none()).then_some(before + 1)
+        let before = earlier.iter().filter_map(|book| book.order).max().unwrap_or(0);
+        current.order.is_none().then_some(before + 1)
     }
 
     /// The book of this number says which program has it.
@@ -363,7 +355,6 @@ mod tests {
         books.add(0, 6);
         assert_eq!(books.earlier(0), [2, 4], "the first one goes first");
         books.remove(0, 6);
-        assert_eq!(books.order_to_say(0), None, "the second one doesn't say that it is the second");
         assert_eq!((books.bytes_of_current(0), books.remove(0, 2)), (0, 25));
         assert_eq!((books.current(0), books.earlier(0), books.remove(0, 2)), (Some(4), vec![], 0));
     }
@@ -371,18 +362,16 @@ mod tests {
     #[test]
     fn each_book_says_which_one_it_is_before_the_next_is_begun() {
         let books = Books::default();
-        assert_eq!((books.order_to_say(0), books.are_ordered(0)), (None, true));
+        assert_eq!(books.order_to_say(0), None);
         books.add(0, 2);
-        assert_eq!((books.order_to_say(0), books.are_ordered(0)), (Some(1), true));
+        assert_eq!(books.order_to_say(0), Some(1));
         books.order_said(0, 2, 1);
         assert_eq!(books.order_to_say(0), None, "it says so");
         books.add(0, 1);
-        assert_eq!((books.order_to_say(0), books.are_ordered(0)), (Some(2), true));
-        // Of two books of an earlier version the numbers tell which is the later one.
-        books.add(1, 3);
-        books.add(1, 4);
-        assert_eq!((books.order_to_say(1), books.are_ordered(1)), (None, false));
-        books.remove(1, 3);
-        assert_eq!((books.order_to_say(1), books.are_ordered(1)), (Some(1), true));
+        assert_eq!(books.order_to_say(0), Some(2));
+        books.remove(0, 2);
+        books.order_said(0, 1, 2);
+        books.add(0, 2);
+        assert_eq!(books.order_to_say(0), Some(3));
     }
 }

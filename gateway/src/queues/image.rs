@@ -364,7 +364,7 @@ fn untold(handed: &Handed, asked: AttemptRequest) -> Option<(AttemptId, Vec<(u64
 /// Books in the order in which they were begun, with their numbers and their entries, and what each of these takes of memory.
 type ReadBooks = Vec<(u64, u64, Vec<(Entry, u64)>)>;
 
-/// The last is one that doesn't say which one it is. Where several don't, they are of an earlier version, and their numbers rise.
+/// The last is the one that doesn't say which one it is.
 fn in_order(shard: Shard, books: BTreeMap<StoreName, StoredQueue>) -> Result<ReadBooks, ImageError> {
     let mut read = ReadBooks::new();
     for (name, book) in books {
@@ -376,7 +376,7 @@ fn in_order(shard: Shard, books: BTreeMap<StoreName, StoredQueue>) -> Result<Rea
         });
         read.push((orders.max().unwrap_or(u64::MAX), number, entries));
     }
-    read.sort_unstable_by_key(|(order, number, _)| (*order, *number));
+    read.sort_unstable_by_key(|(order, ..)| *order);
     Ok(read)
 }
 

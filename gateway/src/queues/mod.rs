@@ -287,7 +287,7 @@ impl Queues {
     /// The number of the next book of the program at this place. Its name may be one that is free again by this moment, if the book
     /// before it says its order.
     pub fn next_book(&self, shards: Shards, place: usize, now: Moment) -> u64 {
-        let may_be_again = self.books.are_ordered(place) && self.books.order_to_say(place).is_none();
+        let may_be_again = self.books.order_to_say(place).is_none();
         let again = may_be_again.then(|| self.names.take_book(place, now)?.book()).flatten();
         again.unwrap_or_else(|| next_number(&self.last_book, shards, place))
     }
