@@ -36,7 +36,7 @@ use crate::purges;
 use crate::queues::shards::Shards;
 use crate::queues::{Image, ImageError, Queues};
 use crate::retention;
-use crate::store::{self, Ends, Kept, NodeStart, Ready, Start, Store, ToldError};
+use crate::store::{self, BesideNodeError, Ends, Kept, NodeStart, Ready, Start, Store, ToldError};
 use crate::tls::Certificate;
 
 /// What a gateway is told at its start.
@@ -412,7 +412,7 @@ async fn begin_beside_node(settings: &Settings, tables: (&Arc<Clock>, &Arc<Queue
         }
     });
     let made = store::wait_beside_node(making, &mut cq, &mut node, (clock, &far)).await?;
-    made.context("the store of the head")?;
+    made.map_err(BesideNodeError::from)?;
     clock.go_on_from(last);
     tell_lead(clock);
     queues.names().wait_from(clock.now());

@@ -55,6 +55,17 @@ def test_a_cluster_is_made_once(etcd):
     assert "is no name of a cluster" in refused("cluster", "create", "--cluster", "a/b", "--etcd", etcd.urls[0], "--nodes", "1")
 
 
+def test_a_cluster_of_another_build_is_refused_by_its_name(etcd):
+    which, key = ["--cluster", NAME, "--etcd", etcd.urls[0]], f"hobbychair/{NAME}/cluster"
+    assert run("cluster", "create", *which, "--nodes", "1").returncode == 0
+    etcd.write(key, json.dumps({**json.loads(etcd.read(key)[key]), "version": 1}))
+    before, node = etcd.read("hobbychair/"), ["node", *which, "--listen", "127.0.0.1:0"]
+    for words in ([*node, "--first", "1"], [*node, "--join"], ["master", *which], ["serve", *which], ["cluster", "status", *which]):
+        said = refused(*words)
+        assert f"cluster {NAME} is of version 1, and this program of version 2." in said and 'docs/CLUSTER.md, "To upgrade"' in said
+    assert etcd.read("hobbychair/") == before
+
+
 def test_a_number_is_used_once(tmp_path):
     """All nodes lose power, and are started again by the same lines: they must not be servers that know nothing."""
     cluster = Cluster(tmp_path)

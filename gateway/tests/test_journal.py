@@ -6,7 +6,9 @@ import hashlib
 import json
 import os
 import shutil
+import socket
 import stat
+import struct
 import subprocess
 import time
 from pathlib import Path
@@ -226,6 +228,24 @@ def test_a_book_of_another_form_is_refused_by_its_files_name(journal, form):
     lock.write_text(noted)
     assert f"its book has the form {form}" in start(journal).stderr
     assert json.loads(run("dump", str(journal)).stdout.splitlines()[-1]) == {"entries": 4, "kind": "entries"}
+
+
+def test_a_gateway_refuses_a_store_of_another_form_that_a_node_tells(tmp_path):
+    with_book(tmp_path / "journal.cq1", 0)
+    lines = map(json.loads, run("dump", str(tmp_path / "journal")).stdout.splitlines())
+    chunks = [bytes.fromhex(line["chunk"]) for line in lines if line["kind"] == "store"]
+
+    def told(kind: int, parts: bytes) -> bytes:
+        return struct.pack("<I", 2 + len(parts)) + bytes([1, kind]) + parts
+
+    node, own = socket.socketpair()
+    with node, own:
+        gateway = subprocess.Popen(command("--beside-node", "--port", "0"), stdin=own, stderr=subprocess.PIPE, text=True)
+        store = b"".join(told(1, struct.pack("<I", len(chunk)) + chunk) for chunk in [*chunks, b""])
+        node.sendall(told(0, bytes(16)) + store + told(2, struct.pack("<I", 1)))
+        said = gateway.communicate(timeout=20)[1].splitlines()[-1]
+    assert gateway.returncode == 1 and 'docs/CLUSTER.md, "To upgrade"' in said, said
+    assert said.startswith("hobbychair: the store of the head is of another build: its book has the form 0,"), said
 
 
 def test_a_journal_whose_making_is_cut_off_is_made_again(tmp_path):

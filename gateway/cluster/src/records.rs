@@ -11,8 +11,8 @@ use thiserror::Error;
 use crate::etcd::{behind, Entry, Etcd, Guard, Operation};
 use crate::identity::{Fingerprint, Identity};
 
-/// The version of all that is here.
-pub const VERSION: u32 = 1;
+/// The version of all that is here, and of what gateways have in the store.
+pub const VERSION: u32 = 2;
 
 /// With what the keys of all clusters begin.
 pub const OF_ALL: &str = "hobbychair/";
@@ -471,7 +471,11 @@ impl Cluster {
         let Some(found) = read.first().and_then(|found| found.first()) else { return Ok(None) };
         let settings: Settings = value(found)?;
         if settings.version != VERSION {
-            bail!("cluster {name} is of version {}, and this program of version {VERSION}", settings.version);
+            bail!(
+                "cluster {name} is of version {}, and this program of version {VERSION}. Before version 0.2.0 no cluster goes \
+                 over from one build to another: docs/CLUSTER.md, \"To upgrade\", says how its messages get into a new one",
+                settings.version
+            );
         }
         match (settings.has_certificates, &identity) {
             (true, None) => bail!("cluster {name} has certificates: give --certificate, --key and --authority"),

@@ -28,9 +28,23 @@ pub enum BesideNodeError {
     #[error("the node and this gateway don't understand each other: {0}")]
     Malformed(#[from] Malformed),
     #[error("the store of the head: {0}")]
-    Image(#[from] ImageError),
+    Image(ImageError),
+    #[error(
+        "the store of the head is of another build: {0}. Before version 0.2.0 no cluster goes over from one build to another: \
+         docs/CLUSTER.md, \"To upgrade\", says how its messages get into a new one"
+    )]
+    OtherForm(ImageError),
     #[error("the tables couldn't be made")]
     Failed,
+}
+
+impl From<ImageError> for BesideNodeError {
+    fn from(why: ImageError) -> BesideNodeError {
+        match why {
+            ImageError::OtherForm(_) => BesideNodeError::OtherForm(why),
+            _ => BesideNodeError::Image(why),
+        }
+    }
 }
 
 /// Takes up the store that the node at the other end of standard input tells. Gives the node, and what of its words was read and

@@ -30,7 +30,7 @@ use crate::texts::{AttemptId, QueueKind, QueueName};
 use admission::Admission;
 use figures::Counters;
 
-pub use beside_node::{take_up as take_up_from_node, wait_for as wait_beside_node};
+pub use beside_node::{take_up as take_up_from_node, wait_for as wait_beside_node, BesideNodeError};
 pub use figures::Figures;
 pub use task::{start, Ends, Kept, NodeStart, Start};
 pub use told::{start as start_told, Ready, ToldError};

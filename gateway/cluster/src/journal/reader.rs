@@ -26,7 +26,10 @@ pub enum Unusable {
     Io(#[from] io::Error),
     #[error("{} holds no journal of a node", .0.display())]
     None(PathBuf),
-    #[error("{} is of version {found}, and this program of version {VERSION}", file.display())]
+    #[error(
+        "{} is of version {found}, and this program of version {VERSION}: docs/CLUSTER.md, \"To upgrade\", says what to do",
+        file.display()
+    )]
     OtherVersion { file: PathBuf, found: u32 },
     #[error("{} was written as part of another journal", .0.display())]
     OtherJournal(PathBuf),

@@ -8,8 +8,8 @@ use serde::{Deserialize, Serialize};
 use crate::parts::{Malformed, Parts, Reader};
 use crate::records::{self, Chain};
 
-/// The version of all that is here.
-pub const VERSION: u32 = 1;
+/// The version of all that is here, and of what gateways have in the store.
+pub const VERSION: u32 = 2;
 
 /// What a part of a journal begins with.
 #[derive(Clone, Debug, PartialEq, Eq, Serialize, Deserialize)]
