@@ -5,6 +5,7 @@ from __future__ import annotations
 import hashlib
 import json
 import os
+import re
 import shutil
 import socket
 import stat
@@ -246,6 +247,40 @@ def test_a_gateway_refuses_a_store_of_another_form_that_a_node_tells(tmp_path):
         said = gateway.communicate(timeout=20)[1].splitlines()[-1]
     assert gateway.returncode == 1 and 'docs/CLUSTER.md, "To upgrade"' in said, said
     assert said.startswith("hobbychair: the store of the head is of another build: its book has the form 0,"), said
+
+
+@pytest.mark.parametrize("name", ["orders.fifo", "orders"])
+def test_a_queue_is_moved_as_the_page_says(name):
+    """By the script of docs/GATEWAY.md, "Upgrade", between two gateways."""
+    page = (TOP / "docs" / "GATEWAY.md").read_text()
+    (script,) = (part for part in re.findall("```python\n(.*?)```", page, re.DOTALL) if "old, new" in part)
+    old, new = Started(), Started()
+    calls, is_fifo = [ByBoto3(gateway.client()) for gateway in (old, new)], name.endswith(".fifo")
+    for call in calls:
+        call("CreateQueue", QueueName=name, Attributes={"FifoQueue": "true"} if is_fifo else {})
+    given = {"x": {"DataType": "Binary", "BinaryValue": b"\0\xff"}, "y": {"DataType": "Number", "StringValue": "7"}}
+    for number in range(23):
+        more = {"MessageDeduplicationId": f"id-{number}"} if is_fifo else {}
+        calls[0]("SendMessage", QueueUrl=name, MessageBody=f"m{number:02}", MessageGroupId=f"group-{number % 3}",
+                 MessageAttributes=given if number % 2 else {}, **more)
+    ports = {"9324": old.url.rsplit(":", 1)[1], "9325": new.url.rsplit(":", 1)[1]}
+    exec(re.sub("932[45]", lambda found: ports[found[0]], script.replace("orders.fifo", name)), {})
+    whole = {"QueueUrl": name, "MaxNumberOfMessages": 10, "AttributeNames": ["All"], "MessageAttributeNames": ["All"]}
+    assert calls[0]("ReceiveMessage", **whole).get("Messages", []) == []
+    found = []
+    while messages := calls[1]("ReceiveMessage", **whole).get("Messages"):
+        found += messages
+        for one in messages:
+            calls[1]("DeleteMessage", QueueUrl=name, ReceiptHandle=one["ReceiptHandle"])
+    told = [(one["Body"], one["Attributes"]["MessageGroupId"], one.get("MessageAttributes", {})) for one in found]
+    sent = [(f"m{number:02}", f"group-{number % 3}", given if number % 2 else {}) for number in range(23)]
+    assert sorted(told, key=lambda one: one[0]) == sent
+    for group in range(3):
+        bodies = [body for body, own, _ in told if own == f"group-{group}"]
+        assert bodies == sorted(bodies) or not is_fifo
+    ids = {one["Attributes"].get("MessageDeduplicationId") for one in found}
+    assert ids == ({f"id-{number}" for number in range(23)} if is_fifo else {None})
+    assert (old.stop(), new.stop()) == (0, 0)
 
 
 def test_a_journal_whose_making_is_cut_off_is_made_again(tmp_path):
