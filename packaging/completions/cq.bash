@@ -21,8 +21,8 @@ _cq() {
         fi
         ;;
     master) COMPREPLY=($(compgen -W "--servers --wire --help" -- "$word")) ;;
-    verify | copy | dump | convert) COMPREPLY=($(compgen -f -- "$word") $(compgen -W "--help" -- "$word")) ;;
-    *) [ "$COMP_CWORD" -gt 1 ] || COMPREPLY=($(compgen -W "replay session live watch explain verify copy dump convert server master help --help --version" -- "$word")) ;;
+    verify | copy | dump) COMPREPLY=($(compgen -f -- "$word") $(compgen -W "--help" -- "$word")) ;;
+    *) [ "$COMP_CWORD" -gt 1 ] || COMPREPLY=($(compgen -W "replay session live watch explain verify copy dump server master help --help --version" -- "$word")) ;;
     esac
 }
 complete -F _cq cq
