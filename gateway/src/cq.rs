@@ -177,10 +177,11 @@ impl Cq {
         let (input, output) = pipes.ok_or_else(|| not_started("it has no pipes".into()))?;
         let errors = process.stderr.take();
         let mut output = Output::new(output);
+        let file = file.map(|file| file.path.clone());
         if file.is_some() {
             output.patience = Duration::MAX;
         }
-        let file = file.map(|file| file.path.clone());
+        output.file = file.clone();
         Ok(Cq { process: Some(process), input: Input::new(input), output, errors, file })
     }
 

@@ -9,9 +9,10 @@
 use std::future::Future;
 use std::io;
 use std::os::unix::io::{AsRawFd, RawFd};
+use std::path::PathBuf;
 use std::pin::Pin;
 use std::task::{Context, Poll};
-use std::time::Duration;
+use std::time::{Duration, SystemTime};
 
 use rustix::fd::BorrowedFd;
 use tokio::io::{AsyncRead, AsyncWrite, ReadBuf};
@@ -113,6 +114,10 @@ pub struct Output {
     pub is_awaited: bool,
     /// What is awaited comes within this time, or reading ends with `TimedOut`.
     pub patience: Duration,
+    /// The file that the program writes. While it does, as in a rewrite on a slow disk, it isn't silent.
+    pub file: Option<PathBuf>,
+    /// When that was written, by the last look.
+    written: Option<SystemTime>,
     silent_since: Option<Instant>,
 }
 
@@ -137,11 +142,22 @@ impl Output {
     }
 
     fn of(pipe: OutputPipe, patience: Duration) -> Output {
-        Output { pipe, looks: Looks::default(), is_awaited: true, patience, silent_since: None }
+        let looks = Looks::default();
+        Output { pipe, looks, is_awaited: true, patience, file: None, written: None, silent_since: None }
     }
 
     fn is_silent_for_too_long(&mut self) -> bool {
         self.silent_since.get_or_insert_with(Instant::now).elapsed() >= self.patience
+    }
+
+    /// Silence begins anew where the file was written since the last look.
+    fn note_writes(&mut self) {
+        let Some(file) = &self.file else { return };
+        let written = std::fs::metadata(file).and_then(|there| there.modified()).ok();
+        if written != self.written {
+            self.written = written;
+            self.silent_since = None;
+        }
     }
 }
 
@@ -183,10 +199,11 @@ impl AsyncRead for Output {
             self.silent_since = None;
             return read;
         }
-        let is_silent = self.is_silent_for_too_long();
+        self.silent_since.get_or_insert_with(Instant::now);
         if !self.looks.are_due(context) {
             return Poll::Pending;
         }
+        self.note_writes();
         let mut piece = vec![0; PIECE.min(buffer.remaining())];
         match rustix::io::read(borrowed(self.pipe.raw()), &mut piece) {
             Ok(count) => {
@@ -194,7 +211,7 @@ impl AsyncRead for Output {
                 buffer.put_slice(&piece[..count]);
                 Poll::Ready(Ok(()))
             }
-            Err(_) if is_silent => {
+            Err(_) if self.is_silent_for_too_long() => {
                 let said = format!("it didn't answer for {} s", self.patience.as_secs());
                 Poll::Ready(Err(io::Error::new(io::ErrorKind::TimedOut, said)))
             }
@@ -249,6 +266,31 @@ mod tests {
         let begun = Instant::now();
         assert_eq!(output.read_u8().await.unwrap_err().kind(), io::ErrorKind::TimedOut);
         assert!(begun.elapsed() >= output.patience);
+    }
+
+    /// A program that writes its file isn't silent, however long it takes.
+    #[tokio::test]
+    async fn who_writes_a_file_is_not_silent() {
+        let file = std::env::temp_dir().join(format!("hobbychair-writes-{}", std::process::id()));
+        std::fs::write(&file, "").unwrap();
+        let mut cat = Command::new("cat").stdin(Stdio::piped()).stdout(Stdio::piped()).spawn().unwrap();
+        let _input = Input::new(cat.stdin.take().unwrap());
+        let mut output = Output::new(cat.stdout.take().unwrap());
+        output.patience = Duration::from_millis(500);
+        output.file = Some(file.clone());
+        let begun = Instant::now();
+        let writing = async {
+            for _ in 0..10 {
+                tokio::time::sleep(Duration::from_millis(200)).await;
+                std::fs::write(&file, "more").unwrap();
+            }
+            begun.elapsed()
+        };
+        let reading = async { (output.read_u8().await, begun.elapsed()) };
+        let ((read, silent), written) = tokio::join!(reading, writing);
+        std::fs::remove_file(&file).unwrap();
+        assert_eq!(read.unwrap_err().kind(), io::ErrorKind::TimedOut);
+        assert!(silent > written, "it was taken for silent after {silent:?}, and wrote for {written:?}");
     }
 
     /// The timer alone: that a pipe comes to be ready without news can't be brought about here.
