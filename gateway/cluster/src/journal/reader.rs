@@ -49,7 +49,7 @@ struct Segment {
     end: u64,
 }
 
-/// A journal that was found. Its head is that of the part with which it begins.
+/// A journal that was found. Its head is that of the part with which it begins; it is durable where all parts are.
 #[derive(Clone, Debug)]
 pub struct Found {
     pub folder: Folder,
@@ -198,7 +198,11 @@ impl Found {
                 self.count += 1;
                 self.last = entry.moment;
             }
-            Record::Known(known) | Record::Head(Head { known, .. }) => self.known = known,
+            Record::Known(known) => self.known = known,
+            Record::Head(Head { known, is_durable, .. }) => {
+                self.known = known;
+                self.head.is_durable &= is_durable;
+            }
             Record::Chunk(_) | Record::End => {}
         }
     }

@@ -272,3 +272,19 @@ fn a_folder_is_one_process_s() {
         assert_eq!(Folder::named(Path::new(name)), None, "{name}");
     }
 }
+
+/// A store that is durable, as that of a cluster which was recovered, says nothing of what comes behind it.
+#[test]
+fn a_journal_is_durable_where_all_its_parts_are() {
+    for is_durable in [true, false] {
+        let (_room, folder) = room();
+        let mut store = NewStore::begin(&folder, 1, &Head { is_durable: true, ..head(3) }).unwrap();
+        store.add(chunk(3)).unwrap();
+        store.end(&folder).unwrap();
+        assert!(Found::read(&folder).unwrap().head.is_durable);
+        let writer = Writer::begin(folder.clone(), Head { is_durable, ..head(3) }, 1, is_durable, drop).unwrap();
+        drop(writer);
+        let found = Found::read(&folder).unwrap();
+        assert_eq!((found.head.is_durable, found.count), (is_durable, 3));
+    }
+}
