@@ -4,9 +4,10 @@ use bytes::Bytes;
 use hobbychair_cluster::parts::{Malformed, Parts, Reader};
 use thiserror::Error;
 
-use crate::history::stored::{self, Receipt, Request};
+use crate::history::stored::{self, Request};
 use crate::lines::{AskFields, AskKind, StoreMessage, StoreReply};
 use crate::queues::ask::{Ask, StoreName};
+use crate::store_bytes::Receipt;
 
 /// The byte of an answer among messages.
 const ANSWER: u8 = 12;
@@ -81,13 +82,8 @@ fn needed<T>(field: Option<T>) -> Result<T, Malformed> {
 }
 
 fn put_receipt(out: &mut Vec<u8>, fields: &AskFields<'_>) -> Result<(), Malformed> {
-    let mut numbers = needed(fields.receipt.as_deref())?.split('-').map(str::parse::<u64>);
-    for _ in 0..3 {
-        match numbers.next() {
-            Some(Ok(number)) => out.number64(number),
-            _ => return Err(Malformed("a receipt isn't three numbers")),
-        }
-    }
+    let Receipt { incarnation, sequence, ordinal } = needed(fields.receipt)?;
+    [incarnation, sequence, ordinal].into_iter().for_each(|number| out.number64(number));
     Ok(())
 }
 
@@ -202,9 +198,7 @@ fn messages(from: &mut Reader) -> Result<Vec<StoreMessage>, Malformed> {
     let count = from.number64()?;
     let mut messages = Vec::new();
     for _ in 0..count {
-        let (incarnation, place, ordinal) = (from.number64()?, from.number64()?, from.number64()?);
-        let receipt = format!("{incarnation}-{place}-{ordinal}");
-        let (group, body) = (from.text()?, from.text()?);
+        let (receipt, group, body) = (receipt(from)?, from.text()?, from.text()?);
         messages.push(StoreMessage { body, group, receipt });
     }
     Ok(messages)
@@ -216,20 +210,19 @@ mod tests {
 
     use proptest::prelude::*;
 
-    use crate::handles::Receipt;
     use crate::messages::Envelope;
-    use crate::queues::ask::{Cause, Changer, PartsAsk, Reach, StoredAs};
+    use crate::queues::ask::{Cause, Changer, PartsAsk, Reach};
     use crate::seeded::{check, edits, spoilt};
     use crate::texts::{DedupId, GroupId};
 
     fn bytes_of(ask_: &Ask) -> Vec<u8> {
-        ask(&AskFields::of(StoredAs { incarnation: 9, ..StoredAs::first(StoreName(7)) }, ask_)).unwrap()
+        ask(&AskFields::of(StoreName(7), ask_)).unwrap()
     }
 
     #[test]
     fn each_ask_has_the_bytes_of_the_page() {
         let name = b"\x06\0\0\x007.fifo";
-        let receipt = Receipt { sequence: 258, ordinal: 3 };
+        let receipt = Receipt { incarnation: 9, sequence: 258, ordinal: 3 };
         let of_receipt = [9u64, 258, 3].map(u64::to_le_bytes).concat();
         let visibility = 9u32.to_le_bytes();
         let deleted = bytes_of(&Ask::Delete { receipt, by_client: true });
@@ -263,7 +256,7 @@ mod tests {
         use stored::Ask;
         let name = b"\x06\0\0\0q.fifo";
         let numbers = [1u64, 2, 3].map(u64::to_le_bytes).concat();
-        let receipt = stored::Receipt { incarnation: 1, sequence: 2, ordinal: 3 };
+        let receipt = Receipt { incarnation: 1, sequence: 2, ordinal: 3 };
         let (group, body) = ("g".to_string(), "body".to_string());
         let texts = [&b"\x01\0\0\0g\x01\x01\0\0\0d"[..], b"\x01\0\0\0g\0"];
         let sent = texts.map(|texts| [texts, b"\x04\0\0\0body"].concat());
@@ -299,7 +292,8 @@ mod tests {
         let read = |reply: &[u8]| read_answer(answer(reply)).map(|answer| answer.reply);
         let delivery = [&[1u64, 2, 3].map(u64::to_le_bytes).concat()[..], b"\x01\0\0\0g", b"\x02\0\0\0a\n"].concat();
         let received = [&[3][..], &1u64.to_le_bytes(), &delivery].concat();
-        let given = StoreMessage { body: "a\n".into(), group: "g".into(), receipt: "1-2-3".into() };
+        let receipt = Receipt { incarnation: 1, sequence: 2, ordinal: 3 };
+        let given = StoreMessage { body: "a\n".into(), group: "g".into(), receipt };
         assert_eq!(read(&received), Ok(StoreReply::Received(vec![given])));
         let whole = read_answer(answer(&[1])).unwrap();
         assert_eq!(whole, Answer { client: 5, number: 6, is_of_query: false, length: 7, reply: StoreReply::Removed });

@@ -1,4 +1,4 @@
-//! Receipts, and the receipt handles that clients see.
+//! The receipt handles that clients see.
 
 use std::hash::Hasher;
 
@@ -6,15 +6,7 @@ use siphasher::sip::SipHasher24;
 use uuid::Uuid;
 
 use crate::errors::SqsError;
-
-/// One handing of a message of a queue.
-#[derive(Clone, Copy, Debug, PartialEq, Eq, Hash)]
-pub struct Receipt {
-    /// The message's sequence number, from 1.
-    pub sequence: u64,
-    /// Which handing of the message this is, from 1.
-    pub ordinal: u64,
-}
+use crate::store_bytes::Receipt;
 
 /// The mark of a queue: random, and another one for each creation of a name.
 #[derive(Clone, Copy, Debug, PartialEq, Eq, Hash, PartialOrd, Ord)]
@@ -26,7 +18,9 @@ pub struct Mark(pub u64);
 #[derive(Clone, Copy, Debug, PartialEq, Eq)]
 pub struct Handle {
     pub mark: Mark,
-    pub receipt: Receipt,
+    /// The message's sequence number, and which handing of it this is: both above 0.
+    pub sequence: u64,
+    pub ordinal: u64,
     pub moment: u64,
 }
 
@@ -55,12 +49,23 @@ const BYTES: usize = CHECKED + 8;
 const LENGTH: usize = (8 * BYTES).div_ceil(6);
 
 impl Handle {
+    /// The handle of a handing, of the queue of this mark, at this moment.
+    pub fn new(mark: Mark, receipt: Receipt, moment: u64) -> Handle {
+        let Receipt { sequence, ordinal, .. } = receipt;
+        Handle { mark, sequence, ordinal, moment }
+    }
+
+    /// The receipt that it stands for, where its queue is this one of its name in the store.
+    pub fn receipt(&self, incarnation: u64) -> Receipt {
+        Receipt { incarnation, sequence: self.sequence, ordinal: self.ordinal }
+    }
+
     /// The handle as clients see it: four numbers and a check of them by the key, in URL-safe base64.
     ///
     /// The moment is first, so that a handle begins with `A`: the AWS CLI takes one that begins with `-` for an option.
     pub fn outward(&self, key: &HandleKey) -> String {
         let mut bytes = [0; BYTES];
-        let numbers = [self.moment, self.mark.0, self.receipt.sequence, self.receipt.ordinal];
+        let numbers = [self.moment, self.mark.0, self.sequence, self.ordinal];
         for (place, number) in numbers.iter().enumerate() {
             bytes[8 * place..8 * place + 8].copy_from_slice(&number.to_be_bytes());
         }
@@ -84,9 +89,9 @@ impl Handle {
             own.copy_from_slice(&bytes[8 * place..8 * place + 8]);
             u64::from_be_bytes(own)
         };
-        let receipt = Receipt { sequence: number(2), ordinal: number(3) };
-        let handle = Handle { mark: Mark(number(1)), receipt, moment: number(0) };
-        (receipt.sequence > 0 && receipt.ordinal > 0).then_some(handle).ok_or(invalid)
+        let (sequence, ordinal) = (number(2), number(3));
+        let handle = Handle { mark: Mark(number(1)), sequence, ordinal, moment: number(0) };
+        (sequence > 0 && ordinal > 0).then_some(handle).ok_or(invalid)
     }
 }
 
@@ -97,11 +102,11 @@ mod tests {
     use crate::seeded::{check, edits, spoilt};
 
     const KEY: HandleKey = HandleKey([7; 16]);
+    const RECEIPT: Receipt = Receipt { incarnation: 4, sequence: 7, ordinal: 2 };
 
     #[test]
     fn a_handle_that_was_changed_is_none() {
-        let receipt = Receipt { sequence: 7, ordinal: 2 };
-        let text = Handle { mark: Mark(5), receipt, moment: 1_700_000_000_000 }.outward(&KEY);
+        let text = Handle::new(Mark(5), RECEIPT, 1_700_000_000_000).outward(&KEY);
         check(5000, edits(), |edits| {
             let spoilt = spoilt(text.as_bytes(), &edits);
             let spoilt = String::from_utf8_lossy(&spoilt);
@@ -113,18 +118,18 @@ mod tests {
     #[test]
     fn no_handle_begins_like_an_option_of_a_command_line() {
         for mark in 0..5000_u64 {
-            let receipt = Receipt { sequence: mark + 1, ordinal: 1 };
-            let text = Handle { mark: Mark(mark << 50), receipt, moment: 1_700_000_000_000 + mark }.outward(&KEY);
+            let receipt = Receipt { sequence: mark + 1, ..RECEIPT };
+            let text = Handle::new(Mark(mark << 50), receipt, 1_700_000_000_000 + mark).outward(&KEY);
             assert!(text.starts_with('A'), "{text}");
         }
     }
 
     #[test]
     fn handles_come_back_and_spoilt_ones_do_not() {
-        let receipt = Receipt { sequence: 7, ordinal: 2 };
-        let handle = Handle { mark: Mark(u64::MAX - 5), receipt, moment: 1_700_000_000_000 };
+        let handle = Handle::new(Mark(u64::MAX - 5), RECEIPT, 1_700_000_000_000);
         let text = handle.outward(&KEY);
         assert_eq!((Handle::read(&text, &KEY), text.len()), (Ok(handle), LENGTH));
+        assert_eq!(handle.receipt(RECEIPT.incarnation), RECEIPT);
         let spoilt = [
             String::new(),
             "x".into(),
@@ -147,9 +152,8 @@ mod tests {
 
     #[test]
     fn who_has_no_key_makes_no_handle_of_those_that_he_was_given() {
-        let receipt = Receipt { sequence: 7, ordinal: 2 };
-        let handle = Handle { mark: Mark(5), receipt, moment: 1_700_000_000_000 };
-        let next = Handle { receipt: Receipt { sequence: 8, ordinal: 1 }, ..handle };
+        let handle = Handle::new(Mark(5), RECEIPT, 1_700_000_000_000);
+        let next = Handle { sequence: 8, ordinal: 1, ..handle };
         let (given, wanted) = (handle.outward(&KEY), next.outward(&KEY));
         let bytes = |text: &str| base64::decode_config(text, base64::URL_SAFE_NO_PAD).unwrap();
         let forged = |check: &[u8]| {

@@ -2,8 +2,8 @@
 
 use std::borrow::Cow;
 
-use crate::handles::Receipt;
-use crate::queues::ask::{Ask, PartsAsk, StoreName, StoredAs};
+use crate::queues::ask::{Ask, PartsAsk, StoreName};
+use crate::store_bytes::Receipt;
 use crate::texts::hex;
 
 /// The kinds of asks.
@@ -27,7 +27,7 @@ pub struct AskFields<'a> {
     pub body: Option<Cow<'a, str>>,
     pub size: Option<u8>,
     pub visibility: Option<u32>,
-    pub receipt: Option<Cow<'a, str>>,
+    pub receipt: Option<Receipt>,
 }
 
 impl<'a> AskFields<'a> {
@@ -44,9 +44,8 @@ impl<'a> AskFields<'a> {
         }
     }
 
-    /// The fields of an ask of a queue that stands in the store so.
-    pub fn of(stored: StoredAs, ask: &'a Ask) -> AskFields<'a> {
-        let queue = stored.name;
+    /// The fields of an ask of the queue of this name.
+    pub fn of(queue: StoreName, ask: &'a Ask) -> AskFields<'a> {
         match ask {
             Ask::Create { store, visibility, .. } => {
                 AskFields { visibility: Some(*visibility), ..AskFields::new(AskKind::Create, *store) }
@@ -70,10 +69,10 @@ impl<'a> AskFields<'a> {
             }
             Ask::Parts { number, ask } => AskFields::of_parts(StoreName::of_parts(*number), ask),
             Ask::Delete { receipt, .. } => {
-                AskFields { receipt: Some(receipt_text(*receipt, stored)), ..AskFields::new(AskKind::Delete, queue) }
+                AskFields { receipt: Some(*receipt), ..AskFields::new(AskKind::Delete, queue) }
             }
             Ask::ChangeVisibility { receipt, visibility, .. } => AskFields {
-                receipt: Some(receipt_text(*receipt, stored)),
+                receipt: Some(*receipt),
                 visibility: Some(*visibility),
                 ..AskFields::new(AskKind::Change, queue)
             },
@@ -107,22 +106,6 @@ impl<'a> AskFields<'a> {
     }
 }
 
-/// The store refuses one of another queue of its name.
-fn receipt_text(receipt: Receipt, stored: StoredAs) -> Cow<'static, str> {
-    format!("{}-{}-{}", stored.incarnation, receipt.sequence, receipt.ordinal).into()
-}
-
-/// Reads the store's text of a receipt of this queue. None if it is that of another queue of its name.
-pub fn read_receipt(text: &str, stored: StoredAs) -> Option<Receipt> {
-    let mut parts = text.split('-').map(|part| part.parse::<u64>().ok());
-    let (Some(Some(incarnation)), Some(Some(sequence)), Some(Some(ordinal)), None) =
-        (parts.next(), parts.next(), parts.next(), parts.next())
-    else {
-        return None;
-    };
-    (incarnation == stored.incarnation).then_some(Receipt { sequence, ordinal })
-}
-
 /// A reply of the store.
 #[derive(Clone, Debug, PartialEq, Eq)]
 pub enum StoreReply {
@@ -147,25 +130,5 @@ pub enum StoreReply {
 pub struct StoreMessage {
     pub body: String,
     pub group: String,
-    pub receipt: String,
-}
-
-#[cfg(test)]
-mod tests {
-    use super::*;
-
-    use crate::queues::ask::Changer;
-
-    const STORED: StoredAs = StoredAs { name: StoreName(7), incarnation: 3 };
-
-    #[test]
-    fn receipts_have_three_numbers() {
-        let receipt = Receipt { sequence: 12, ordinal: 4 };
-        let ask = Ask::ChangeVisibility { receipt, visibility: 9, by: Changer::Client };
-        let text = AskFields::of(STORED, &ask).receipt.unwrap();
-        assert_eq!((text.as_ref(), read_receipt(&text, STORED)), ("3-12-4", Some(receipt)));
-        for other in ["1-12-4", "3-12", "3-12-4-", "3-12-x", ""] {
-            assert_eq!(read_receipt(other, STORED), None, "{other}");
-        }
-    }
+    pub receipt: Receipt,
 }

@@ -17,12 +17,12 @@ use sha2::Sha256;
 use uuid::Uuid;
 
 use crate::errors::SqsError;
-use crate::handles::Receipt;
 use crate::messages::{message_id, EnvelopeHead};
 use crate::parts;
 use crate::queues::ask::{Ask, Cause, Changer, Fate, Handed, PartsCause};
 use crate::queues::Queue;
 use crate::store::{Copy, Held, Store};
+use crate::store_bytes::Receipt;
 use crate::texts::{bytes_of_hex, hex, DedupId, GroupId, QueueKind};
 
 /// Which message a copy is of: the mark of its queue, and its sequence number there.

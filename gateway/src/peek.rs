@@ -14,11 +14,11 @@ use uuid::Uuid;
 use crate::actions::{show, Owner};
 use crate::budget::{Budget, Share};
 use crate::errors::SqsError;
-use crate::handles::Receipt;
 use crate::parts::{self, Read};
 use crate::queues::ask::Handed;
 use crate::queues::{Chunk, Cursor, Peeked, Queue, Visibility};
 use crate::store::Store;
+use crate::store_bytes::Receipt;
 use crate::texts::QueueName;
 use crate::wire::requests::Shown;
 use crate::wire::responses::ReceivedMessage;
@@ -236,7 +236,7 @@ impl Page {
         let Peeked { visibility, sequence, group, count, first, .. } = peeked;
         let first = first.unwrap_or(0);
         self.bytes += envelope.len();
-        let receipt = Receipt { sequence, ordinal: count };
+        let receipt = Receipt { incarnation: queue.state().incarnation, sequence, ordinal: count };
         let handed = Handed { receipt, moment: 0, first, group, envelope };
         let mut message = show(queue, &handed, &Shown::all(), (owner, HANDLE.into()))?;
         if wanted.shows_in_flight {

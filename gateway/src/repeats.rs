@@ -9,9 +9,9 @@ use sha2::{Digest, Sha256};
 use tokio::sync::watch;
 
 use crate::clock::Clock;
-use crate::handles::Receipt;
 use crate::presence::{Presence, Present};
 use crate::queues::Queue;
+use crate::store_bytes::Receipt;
 use crate::wire::requests::Action;
 use crate::wire::Reply;
 

@@ -92,7 +92,7 @@ impl Actions {
     async fn received(&self, queue: &Arc<Queue>, handed: Vec<Handed>, shown: &Shown) -> Result<Performed, SqsError> {
         let handed = parts::complete(&self.store, handed).await?;
         let key = self.store.handle_key(queue);
-        let handle_of = |one: &Handed| Handle { mark: queue.mark, receipt: one.receipt, moment: one.moment };
+        let handle_of = |one: &Handed| Handle::new(queue.mark, one.receipt, one.moment);
         let shown = handed.iter().map(|one| show(queue, one, shown, (&self.owner, handle_of(one).outward(&key))));
         let messages = shown.collect::<Result<_, _>>()?;
         let receipts = handed.iter().map(|one| one.receipt).collect();

@@ -1,13 +1,11 @@
 //! What a store is asked and answers (`docs/QUEUES.md`), and how a line of a history has it.
 
-use std::fmt;
-use std::str::FromStr;
-
 use serde_json::{json, Value};
 
 use super::line::{attributes, number, text, Line, Members, OfStore, Refusal};
 use crate::digests::md5_of_text;
 use crate::lines::{StoreMessage, StoreReply};
+use crate::store_bytes::Receipt;
 
 /// The numbers of refusals.
 pub const NO_QUEUE: u32 = 1;
@@ -40,33 +38,21 @@ pub enum Ask {
     Change { receipt: Receipt, timeout: u32 },
 }
 
-/// Which handing of which message of which incarnation of a queue. All three are above 0.
-#[derive(Clone, Copy, Debug, PartialEq, Eq)]
-pub struct Receipt {
-    pub incarnation: u64,
-    pub sequence: u64,
-    pub ordinal: u64,
+/// A receipt as a line has it: its numbers with hyphens between them.
+fn receipt_text(receipt: Receipt) -> String {
+    let Receipt { incarnation, sequence, ordinal } = receipt;
+    format!("{incarnation}-{sequence}-{ordinal}")
 }
 
-impl fmt::Display for Receipt {
-    fn fmt(&self, out: &mut fmt::Formatter<'_>) -> fmt::Result {
-        write!(out, "{}-{}-{}", self.incarnation, self.sequence, self.ordinal)
-    }
-}
-
-impl FromStr for Receipt {
-    type Err = String;
-
-    fn from_str(text: &str) -> Result<Receipt, String> {
-        let numbers: Vec<u64> =
-            text.split('-').filter_map(|number| number.parse().ok()).filter(|number| *number > 0).collect();
-        match numbers[..] {
-            [incarnation, sequence, ordinal] if text == format!("{incarnation}-{sequence}-{ordinal}") => {
-                Ok(Receipt { incarnation, sequence, ordinal })
-            }
-            _ => Err(format!("{text:?} is no receipt of a store")),
-        }
-    }
+/// The receipt that this is the text of, or why it is none.
+fn read_receipt(text: &str) -> Result<Receipt, String> {
+    let numbers: Vec<u64> = text.split('-').filter_map(|number| number.parse().ok()).collect();
+    let receipt = match numbers[..] {
+        [incarnation, sequence, ordinal] if !numbers.contains(&0) => Some(Receipt { incarnation, sequence, ordinal }),
+        _ => None,
+    };
+    let is_its_text = |receipt: &Receipt| receipt_text(*receipt) == text;
+    receipt.filter(is_its_text).ok_or_else(|| format!("{text:?} is no receipt of a store"))
 }
 
 /// What a store answered: members, or the code of a refusal.
@@ -137,9 +123,9 @@ impl Request {
                 put("MaxNumberOfMessages", (*size).into());
                 timeout.iter().for_each(|timeout| put("VisibilityTimeout", (*timeout).into()));
             }
-            Ask::Delete { receipt } => put("ReceiptHandle", receipt.to_string().into()),
+            Ask::Delete { receipt } => put("ReceiptHandle", receipt_text(*receipt).into()),
             Ask::Change { receipt, timeout } => {
-                put("ReceiptHandle", receipt.to_string().into());
+                put("ReceiptHandle", receipt_text(*receipt).into());
                 put("VisibilityTimeout", (*timeout).into());
             }
         }
@@ -153,7 +139,7 @@ impl Request {
         let count =
             |name: &str| number(members, name).map(|number| u32::try_from(number).map_err(|_| bad(name))).transpose();
         let needed = |name: &str| count(name)?.ok_or_else(|| missing(name));
-        let receipt = || given("ReceiptHandle")?.parse::<Receipt>();
+        let receipt = || read_receipt(&given("ReceiptHandle")?);
         let queue = if line.action == "CreateQueue" { "QueueName" } else { "QueueUrl" };
         let ask = match line.action.as_str() {
             "CreateQueue" => created(members)?,
@@ -196,7 +182,7 @@ impl Request {
                 }
             }
             StoreReply::Received(messages) => {
-                put("Messages", messages.iter().map(handed).collect::<Option<Vec<_>>>()?.into());
+                put("Messages", messages.iter().map(handed).collect::<Vec<_>>().into());
             }
             StoreReply::Deleted(removed) => put("Removed", (*removed).into()),
             StoreReply::Refused(refusal) => return Some(Err(code(*refusal)?.into())),
@@ -227,12 +213,12 @@ fn created(members: &Members) -> Result<Ask, String> {
     Ok(Ask::Create { timeout, makes_ids })
 }
 
-fn handed(message: &StoreMessage) -> Option<Value> {
+fn handed(message: &StoreMessage) -> Value {
     let StoreMessage { body, group, receipt } = message;
-    let Receipt { incarnation, sequence, ordinal } = receipt.parse().ok()?;
-    Some(json!({
+    let Receipt { incarnation, sequence, ordinal } = receipt;
+    json!({
         "MessageId": format!("{incarnation}-{sequence}"),
-        "ReceiptHandle": receipt,
+        "ReceiptHandle": receipt_text(*receipt),
         "Body": body,
         "MD5OfBody": md5_of_text(body),
         "Attributes": {
@@ -240,7 +226,7 @@ fn handed(message: &StoreMessage) -> Option<Value> {
             "MessageGroupId": group,
             "SequenceNumber": sequence.to_string(),
         },
-    }))
+    })
 }
 
 /// The code that SQS has for a refusal. For one of a number that was used it has none.

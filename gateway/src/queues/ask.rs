@@ -9,10 +9,10 @@ use uuid::Uuid;
 use super::book::Entry;
 use crate::attributes::GivenAttributes;
 use crate::clock::Moment;
-use crate::handles::Receipt;
 use crate::messages::{read_envelope, Envelope};
 use crate::move_tasks::MoveTask;
 use crate::moves::Origin;
+use crate::store_bytes::Receipt;
 use crate::texts::{AttemptId, DedupId, GroupId};
 
 /// The name under which a queue stands in the store: a number, and another one each time. Queues that have the parts of
@@ -98,21 +98,6 @@ impl TryFrom<String> for StoreName {
 impl From<StoreName> for String {
     fn from(name: StoreName) -> String {
         name.text()
-    }
-}
-
-/// How a queue stands in a store.
-#[derive(Clone, Copy, Debug, PartialEq, Eq)]
-pub struct StoredAs {
-    pub name: StoreName,
-    /// Which queue of this name it is, from 1: the store counts them.
-    pub incarnation: u64,
-}
-
-impl StoredAs {
-    /// The first queue of this name.
-    pub fn first(name: StoreName) -> StoredAs {
-        StoredAs { name, incarnation: 1 }
     }
 }
 

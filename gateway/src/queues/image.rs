@@ -19,7 +19,7 @@ use crate::clock::Moment;
 use crate::messages::EnvelopeHead;
 use crate::move_tasks::MoveTask;
 use crate::moves::{CopyId, Origin};
-use crate::store_bytes::{Fault, Part, QueuePart, StoreReader};
+use crate::store_bytes::{Fault, Part, QueuePart, Receipt, StoreReader};
 use crate::texts::{fingerprint_of, AttemptId, CallKey};
 
 /// Why there are no tables of a store's bytes.
@@ -33,8 +33,8 @@ pub enum ImageError {
     OtherForm(u32),
 }
 
-/// Of clients whose last request handed messages out: its number, and the sequence number and the ordinal of each handing.
-type Handed = HashMap<u32, (u64, Vec<(u64, u64)>)>;
+/// Of clients whose last request handed messages out: its number, and the receipts.
+type Handed = HashMap<u32, (u64, Vec<Receipt>)>;
 
 /// What the bytes of one program's store say, as far as the tables need it.
 #[derive(Default)]
@@ -85,8 +85,8 @@ pub(super) struct StoredQueue {
     pub(super) accepted: Vec<AcceptedSend>,
     /// What attempts were given, in the order in which books say it.
     pub(super) attempts: Vec<AttemptEntry>,
-    /// What attempts were given by requests of which no book says that: their ids, and the handings of messages.
-    pub(super) untold: Vec<(AttemptId, Vec<(u64, u64)>)>,
+    /// What attempts were given by requests of which no book says that.
+    pub(super) untold: Vec<(AttemptId, Vec<Receipt>)>,
 }
 
 pub(super) struct StoredMessage {
@@ -356,7 +356,7 @@ fn test_forms(books: &BTreeMap<StoreName, StoredQueue>) -> Result<(), ImageError
 }
 
 /// What an attempt was given by a request that is its client's last one.
-fn untold(handed: &Handed, asked: AttemptRequest) -> Option<(AttemptId, Vec<(u64, u64)>)> {
+fn untold(handed: &Handed, asked: AttemptRequest) -> Option<(AttemptId, Vec<Receipt>)> {
     let (_, receipts) = handed.get(&asked.client).filter(|(number, _)| *number == asked.number)?;
     Some((asked.id, receipts.clone()))
 }

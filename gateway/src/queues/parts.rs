@@ -186,6 +186,7 @@ impl Parts {
 mod tests {
     use super::*;
     use crate::queues::ask::PartsCause;
+    use crate::store_bytes::Receipt;
 
     fn freed(parts: &Parts) -> Vec<u64> {
         let mut freed = parts.take_those_freed();
@@ -281,7 +282,7 @@ mod tests {
         let given = ["one", "two"].map(|body| crate::lines::StoreMessage {
             body: body.into(),
             group: "parts".into(),
-            receipt: "1-1-1".into(),
+            receipt: Receipt { incarnation: 1, sequence: 1, ordinal: 1 },
         });
         let read = parts.apply_reply(1, &PartsAsk::Read, StoreReply::Received(given.to_vec()), 0).unwrap();
         assert!(matches!(read, Outcome::Parts(text) if text == "onetwo"));

@@ -12,11 +12,11 @@ use super::book::{Entry, QueueEntry};
 use super::State;
 use crate::attributes::{GivenAttributes, QueueAttributes};
 use crate::clock::Moment;
-use crate::handles::Receipt;
 use crate::lines::{self, StoreReply};
 use crate::messages::Envelope;
 use crate::retention::Jumps;
 use crate::seeded::check;
+use crate::store_bytes::Receipt;
 use crate::texts::{DedupId, GroupId, QueueKind, QueueName};
 
 #[derive(Clone, Debug)]
@@ -63,7 +63,7 @@ impl List {
             let message = self.messages.get_mut(&sequence).unwrap();
             message.count += 1;
             message.until = now + 1000 * u64::from(visibility);
-            let receipt = format!("1-{sequence}-{}", message.count);
+            let receipt = Receipt { incarnation: 1, sequence, ordinal: message.count };
             given.push(lines::StoreMessage { body: "b".into(), group: message.group.into(), receipt });
         }
         given
@@ -224,7 +224,7 @@ impl Both {
     fn some_handed(&self, place: &Index) -> Option<Receipt> {
         let handed: Vec<_> = self.list.messages.iter().filter(|(_, message)| message.count > 0).collect();
         let (sequence, message) = (!handed.is_empty()).then(|| handed[place.index(handed.len())])?;
-        Some(Receipt { sequence: *sequence, ordinal: message.count })
+        Some(Receipt { incarnation: 1, sequence: *sequence, ordinal: message.count })
     }
 
     fn step(&mut self, step: &Step) -> TestCaseResult {

@@ -7,7 +7,7 @@ use crate::clock::Moment;
 use crate::lines::{AskFields, AskKind, StoreMessage, StoreReply};
 use crate::queues::ask::StoreName;
 use crate::store_bytes::written::{append, chunk};
-use crate::store_bytes::{KeptHandings, Part, QueuePart};
+use crate::store_bytes::{KeptHandings, Part, QueuePart, Receipt};
 
 const WINDOW: u64 = 300_000;
 
@@ -133,8 +133,8 @@ impl LivingQueue {
         match fields.kind {
             AskKind::Send => self.send(fields, now),
             AskKind::Receive => self.receive(fields, now),
-            AskKind::Delete => self.delete(&text(&fields.receipt), now),
-            _ => self.change(&text(&fields.receipt), fields.visibility.unwrap(), now),
+            AskKind::Delete => self.delete(fields.receipt.unwrap(), now),
+            _ => self.change(fields.receipt.unwrap(), fields.visibility.unwrap(), now),
         }
     }
 
@@ -170,14 +170,14 @@ impl LivingQueue {
         let hand = |sequence| {
             let message = self.messages.get_mut(&sequence).unwrap();
             (message.handings, message.handed, message.until) = (message.handings + 1, now, until);
-            let receipt = format!("{}-{sequence}-{}", self.incarnation, message.handings);
+            let receipt = Receipt { incarnation: self.incarnation, sequence, ordinal: message.handings };
             StoreMessage { body: message.body.clone(), group: message.group.clone(), receipt }
         };
         StoreReply::Received(next.into_iter().map(hand).collect())
     }
 
-    fn delete(&mut self, receipt: &str, now: Moment) -> StoreReply {
-        let (incarnation, sequence, ordinal) = numbers(receipt);
+    fn delete(&mut self, receipt: Receipt, now: Moment) -> StoreReply {
+        let Receipt { incarnation, sequence, ordinal } = receipt;
         if incarnation != self.incarnation {
             return StoreReply::Refused(4);
         }
@@ -193,8 +193,8 @@ impl LivingQueue {
         StoreReply::Deleted(is_deleted)
     }
 
-    fn change(&mut self, receipt: &str, visibility: u32, now: Moment) -> StoreReply {
-        let ((incarnation, sequence, ordinal), until) = (numbers(receipt), now + 1000 * u64::from(visibility));
+    fn change(&mut self, receipt: Receipt, visibility: u32, now: Moment) -> StoreReply {
+        let (Receipt { incarnation, sequence, ordinal }, until) = (receipt, now + 1000 * u64::from(visibility));
         if incarnation != self.incarnation {
             return StoreReply::Refused(4);
         }
@@ -210,10 +210,4 @@ impl LivingQueue {
             None => StoreReply::Refused(4),
         }
     }
-}
-
-/// The incarnation, the sequence number and the ordinal of a receipt.
-fn numbers(receipt: &str) -> (u64, u64, u64) {
-    let numbers: Vec<u64> = receipt.split('-').map(|number| number.parse().unwrap()).collect();
-    (numbers[0], numbers[1], numbers[2])
 }

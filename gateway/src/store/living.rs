@@ -11,7 +11,6 @@ use super::by_rules::StoreByRules;
 use crate::attributes::GivenAttributes;
 use crate::clock::Moment;
 use crate::errors::SqsError;
-use crate::handles::Receipt;
 use crate::lines::{AskFields, StoreReply};
 use crate::messages::{parts_of, Envelope, EnvelopeHead};
 use crate::move_tasks::{MoveTask, Status};
@@ -20,6 +19,7 @@ use crate::queues::ask::{Ask, Cause, Changer, Handed, Outcome, PartsAsk, PartsCa
 use crate::queues::book::{Entry, ProgramEntry, QueueEntry};
 use crate::queues::shards::Shards;
 use crate::queues::{Queue, Queues};
+use crate::store_bytes::Receipt;
 use crate::texts::{AttemptId, DedupId, GroupId, QueueKind, QueueName};
 
 const NAMES: [&str; 4] = ["a", "b.fifo", "c", "d.fifo"];
@@ -197,7 +197,7 @@ impl Living {
     }
 
     fn ask(&mut self, queue: &Arc<Queue>, ask: Ask) -> Result<Outcome, SqsError> {
-        let (place, own) = (self.shards.place_of(&queue.name), queue.state().stored_as());
+        let (place, own) = (self.shards.place_of(&queue.name), queue.state().entry.store);
         let place = match &ask {
             Ask::Create { store, .. } | Ask::Remove { store } if store.book().is_some() => {
                 self.shards.place_of_number(store.book().unwrap())

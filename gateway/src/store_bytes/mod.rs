@@ -4,6 +4,7 @@
 //! clients, and digests of bodies.
 
 mod parts;
+mod receipt;
 #[cfg(test)]
 mod tests;
 #[cfg(test)]
@@ -18,6 +19,7 @@ use crate::clock::Moment;
 pub use parts::KeptHandings;
 use parts::{Bytes, Digest, Mention};
 pub use parts::{Part, QueuePart};
+pub use receipt::Receipt;
 
 /// The first byte of each chunk.
 const VERSION: u8 = 1;

@@ -2,7 +2,7 @@
 
 use sha2::Sha256;
 
-use super::Fault;
+use super::{Fault, Receipt};
 use crate::clock::Moment;
 use crate::texts::{is_of_xml, is_short_and_printable, STORE_LIMIT};
 
@@ -56,10 +56,10 @@ pub enum Part<'a> {
 pub struct KeptHandings<'a>(&'a [u8]);
 
 impl KeptHandings<'_> {
-    /// The sequence number and the ordinal of each message; none where the reply is of another kind.
-    pub fn receipts(self) -> Vec<(u64, u64)> {
+    /// One for each message; none where the reply is of another kind.
+    pub fn receipts(self) -> Vec<Receipt> {
         let mut bytes = Bytes(self.0);
-        let receipt = || bytes.kept_delivery().ok().map(|([_, sequence, ordinal], _)| (sequence, ordinal));
+        let receipt = || bytes.kept_delivery().ok().map(|(receipt, _)| receipt);
         std::iter::from_fn(receipt).collect()
     }
 
@@ -277,12 +277,15 @@ impl<'a> Bytes<'a> {
         }
     }
 
+    fn receipt(&mut self) -> Result<Receipt, Fault> {
+        let numbers @ [incarnation, sequence, ordinal] = [self.number64()?, self.number64()?, self.number64()?];
+        let is_good = !numbers.contains(&0);
+        is_good.then_some(Receipt { incarnation, sequence, ordinal }).ok_or(Fault::BadNumber)
+    }
+
     /// A receipt, and the body that it mentions.
-    fn kept_delivery(&mut self) -> Result<([u64; 3], Mention), Fault> {
-        let receipt = [self.number64()?, self.number64()?, self.number64()?];
-        if receipt.contains(&0) {
-            return Err(Fault::BadNumber);
-        }
+    fn kept_delivery(&mut self) -> Result<(Receipt, Mention), Fault> {
+        let receipt = self.receipt()?;
         self.id()?;
         let mention = match self.byte()? {
             0 => Mention::First(digest(self.body()?)),

@@ -3,9 +3,9 @@
 use std::collections::{BTreeMap, BTreeSet, HashMap, VecDeque};
 use std::rc::Rc;
 
-use crate::history::stored::{Receipt, BAD_RECEIPT, BEYOND_LIMIT, NOT_IN_FLIGHT, NO_ID};
+use crate::history::stored::{BAD_RECEIPT, BEYOND_LIMIT, NOT_IN_FLIGHT, NO_ID};
 use crate::lines::{StoreMessage, StoreReply};
-use crate::store_bytes::QueuePart;
+use crate::store_bytes::{QueuePart, Receipt};
 use crate::texts::DedupId;
 
 /// A send with the id of an earlier one adds nothing for so long, in milliseconds.
@@ -141,7 +141,7 @@ impl Queue {
             let Some(message) = self.messages.get_mut(&sequence) else { continue };
             message.handings += 1;
             (message.handed, message.until) = (now, until);
-            let receipt = Receipt { incarnation: self.incarnation, sequence, ordinal: message.handings }.to_string();
+            let receipt = Receipt { incarnation: self.incarnation, sequence, ordinal: message.handings };
             let group = message.group.clone();
             handed.push(StoreMessage { body: message.body.clone(), group: group.to_string(), receipt });
             self.place(&group, now);

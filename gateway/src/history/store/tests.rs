@@ -3,7 +3,6 @@
 use proptest::prelude::*;
 use serde_json::{json, Value};
 
-use super::super::stored::Receipt;
 use super::super::{check, Told};
 use super::*;
 use crate::history::stored::line_of_chunk;
@@ -11,6 +10,7 @@ use crate::lines::{AskFields, AskKind};
 use crate::queues::ask::StoreName;
 use crate::seeded;
 use crate::store::by_rules::StoreByRules;
+use crate::store_bytes::Receipt;
 
 /// A history that is written by a test.
 #[derive(Default)]
@@ -329,10 +329,9 @@ fn fields(queue: &str, ask: &Ask) -> AskFields<'static> {
         Ask::Receive { size, timeout } => {
             AskFields { size: Some(size as u8), visibility: timeout, ..plain(AskKind::Receive) }
         }
-        Ask::Delete { receipt } => AskFields { receipt: Some(receipt.to_string().into()), ..plain(AskKind::Delete) },
+        Ask::Delete { receipt } => AskFields { receipt: Some(receipt), ..plain(AskKind::Delete) },
         Ask::Change { receipt, timeout } => {
-            let receipt = Some(receipt.to_string().into());
-            AskFields { receipt, visibility: Some(timeout), ..plain(AskKind::Change) }
+            AskFields { receipt: Some(receipt), visibility: Some(timeout), ..plain(AskKind::Change) }
         }
     }
 }

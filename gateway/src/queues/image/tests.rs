@@ -5,14 +5,13 @@ use proptest::sample::Index;
 use proptest::test_runner::TestCaseResult;
 
 use super::*;
-use crate::handles::Receipt;
 use crate::messages::{Envelope, Metadata};
 use crate::queues::book::{ProgramEntry, QueueEntry};
 use crate::queues::shards::Shards;
 use crate::seeded::check;
 use crate::store::living::{steps, told, Living, Seen, Step};
 use crate::store_bytes::written::{append, chunk};
-use crate::store_bytes::KeptHandings;
+use crate::store_bytes::{KeptHandings, Receipt};
 use crate::texts::{Body, QueueName};
 
 /// The tables that are made of what was there behind a request.
@@ -80,8 +79,10 @@ fn the_tables_of_the_bytes_know_queues_and_books_whose_names_were_used_before() 
     for (turn, name) in (1..).zip(["a", "b.fifo", "c", "a"]) {
         let own = [Create, Send, Delay, Receive(3, 30), Take(true), BeginBook, Tag(1), EndBook];
         own.iter().for_each(|step| living.step(name, step));
-        let stored = queue_of(&living, name).state().stored_as();
-        assert_eq!((stored.name, stored.incarnation), (StoreName(1), turn));
+        let queue = queue_of(&living, name);
+        let state = queue.state();
+        assert_eq!((state.entry.store, state.incarnation), (StoreName(1), turn));
+        drop(state);
         [Remove, RemoveLeftOver, Wait(360_000)].iter().for_each(|step| living.step(name, step));
     }
     // The first book of the two whose names come by turns is there, for the third time.
@@ -125,7 +126,7 @@ fn given_by(request: (u32, u64), ordinal: u64, until: Moment) -> Option<Vec<Rece
 
 #[test]
 fn what_an_attempt_was_given_by_its_clients_last_request_is_known_though_no_book_says_it() {
-    let both = [1, 2].map(|sequence| Receipt { sequence, ordinal: 1 }).to_vec();
+    let both = [1, 2].map(|sequence| Receipt { incarnation: 1, sequence, ordinal: 1 }).to_vec();
     assert_eq!(given_by((3, 7), 1, 31_000), Some(both));
     // It asked by another request, of this client or of another one: it was told, or the store hasn't done that.
     assert_eq!([(3, 6), (3, 8), (4, 7)].map(|request| given_by(request, 1, 31_000)), [None, None, None]);

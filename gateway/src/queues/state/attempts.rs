@@ -141,11 +141,11 @@ fn is_end(by_id: &HashMap<AttemptId, Attempt>, id: &AttemptId, end: Moment) -> b
 mod tests {
     use super::*;
 
-    use crate::handles::Receipt;
+    use crate::store_bytes::Receipt;
 
     fn attempt(moment: Moment, until: Moment, sequences: &[u64]) -> Attempt {
         let handed = |sequence: &u64| Handed {
-            receipt: Receipt { sequence: *sequence, ordinal: 1 },
+            receipt: Receipt { incarnation: 1, sequence: *sequence, ordinal: 1 },
             moment,
             first: moment,
             group: "g".into(),

@@ -6,8 +6,8 @@ use super::delayed::First;
 use super::message::Message;
 use super::State;
 use crate::clock::Moment;
-use crate::handles::Receipt;
 use crate::queues::ask::Outcome;
+use crate::store_bytes::Receipt;
 use crate::texts::DedupId;
 
 impl State {

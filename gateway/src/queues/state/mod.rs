@@ -21,19 +21,19 @@ use std::sync::Arc;
 
 use uuid::Uuid;
 
-use super::ask::{Ask, Cause, Changer, Fate, Handed, Outcome, Reach, StoredAs};
+use super::ask::{Ask, Cause, Changer, Fate, Handed, Outcome, Reach};
 use super::book::{AttemptEntry, AttemptRequest, Entry, QueueEntry};
 use super::groups::{Group, Groups};
 use crate::attributes::QueueAttributes;
 use crate::clock::Moment;
 use crate::errors::SqsError;
-use crate::handles::Receipt;
 use crate::limits::{ID_BYTES, MESSAGE_BYTES, QUEUE_BYTES, STORED_ID_BYTES, STORED_MESSAGE_BYTES, STORED_QUEUE_BYTES};
-use crate::lines::{read_receipt, StoreMessage, StoreReply};
+use crate::lines::{StoreMessage, StoreReply};
 use crate::messages::{has_parts, Envelope, EnvelopeHead};
 use crate::move_tasks::{MoveTask, Status};
 use crate::redrive::RedrivePolicy;
 use crate::retention::Jumps;
+use crate::store_bytes::Receipt;
 use crate::texts::{AttemptId, GroupId, QueueKind};
 use attempts::{Attempt, Attempts};
 use delayed::{Calls, DueMessages, First};
@@ -178,11 +178,6 @@ impl State {
             calls: Calls::default(),
             vain_sweep: None,
         }
-    }
-
-    /// How it stands in the store.
-    pub fn stored_as(&self) -> StoredAs {
-        StoredAs { name: self.entry.store, incarnation: self.incarnation }
     }
 
     /// Applies the store's reply to an ask of `moment`.
@@ -347,8 +342,10 @@ impl State {
     }
 
     fn hand(&mut self, given: StoreMessage, receiving: &Receiving<'_>) -> Result<(Handed, Option<Fate>), SqsError> {
-        let moment = receiving.moment;
-        let receipt = read_receipt(&given.receipt, self.stored_as()).ok_or_else(misfit)?;
+        let (moment, receipt) = (receiving.moment, given.receipt);
+        if receipt.incarnation != self.incarnation {
+            return Err(misfit());
+        }
         self.hide(receipt.sequence, receiving.until);
         let message = self.messages.get_mut(receipt.sequence).ok_or_else(misfit)?;
         let first = message.last.map_or(moment, |last| last.first);

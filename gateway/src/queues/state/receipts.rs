@@ -4,16 +4,22 @@ use super::message::Message;
 use super::State;
 use crate::clock::Moment;
 use crate::errors::SqsError;
-use crate::handles::{Handle, Receipt};
+use crate::handles::Handle;
 use crate::queues::ask::Fate;
 use crate::retention::Jumps;
+use crate::store_bytes::Receipt;
 
 impl State {
+    /// The receipt of this handing of this message.
+    pub(super) fn receipt(&self, sequence: u64, ordinal: u64) -> Receipt {
+        Receipt { incarnation: self.incarnation, sequence, ordinal }
+    }
+
     /// The receipt of a handle, if the handle is of a handing that there was. The mark is tested before.
     ///
     /// Of a message that is deleted, and of an earlier handing to a client, the store decides: neither does anything.
     pub fn receipt_of(&self, handle: &Handle) -> Result<Receipt, SqsError> {
-        let receipt = handle.receipt;
+        let receipt = handle.receipt(self.incarnation);
         if receipt.sequence > self.last_sequence {
             return Err(SqsError::ReceiptHandleIsInvalid);
         }
@@ -57,7 +63,7 @@ impl State {
         let mut receipts = Vec::new();
         for (sequence, message) in self.messages.from(first).take_while(|(sequence, _)| *sequence <= last).take(most) {
             next = Some(sequence + 1);
-            let receipt = Receipt { sequence, ordinal: message.ordinal };
+            let receipt = self.receipt(sequence, message.ordinal);
             receipts.extend(Some(receipt).filter(|receipt| receipt.ordinal > 0));
         }
         Some((receipts, next?))
@@ -67,7 +73,7 @@ impl State {
     /// there any more.
     pub fn last_receipt_of(&self, sequence: u64) -> Option<Receipt> {
         let message = self.messages.get(sequence).filter(|_| !self.removed)?;
-        Some(Receipt { sequence, ordinal: message.ordinal }).filter(|receipt| receipt.ordinal > 0)
+        Some(self.receipt(sequence, message.ordinal)).filter(|receipt| receipt.ordinal > 0)
     }
 
     /// Whether the last handing set the message aside, to be moved to a target that is there since `created`. Only what
@@ -83,7 +89,7 @@ impl State {
     pub fn cut_off(&self, created: Option<Moment>, jumps: &Jumps, now: Moment) -> Vec<(Receipt, Fate)> {
         let in_flight = self.messages.in_flight().filter(|(_, message)| message.until() > now);
         let with_fates = in_flight.filter_map(|(sequence, message)| {
-            let receipt = Receipt { sequence, ordinal: message.ordinal };
+            let receipt = self.receipt(sequence, message.ordinal);
             Some((receipt, self.fate_of_cut_off(sequence, message, created, jumps)?))
         });
         with_fates.collect()

@@ -10,7 +10,7 @@ use super::message::{Handing, Message};
 use super::recent::RecentSend;
 use super::{State, WINDOW};
 use crate::clock::Moment;
-use crate::handles::{Mark, Receipt};
+use crate::handles::Mark;
 use crate::messages::message_id;
 #[cfg(test)]
 use crate::move_tasks::MoveTask;
@@ -18,6 +18,7 @@ use crate::moves::Origin;
 use crate::queues::ask::Handed;
 use crate::queues::book::AttemptEntry;
 use crate::queues::image::{AcceptedSend, Named, StoredMessage, StoredQueue};
+use crate::store_bytes::Receipt;
 use crate::texts::{AttemptId, CallKey, QueueKind};
 
 impl State {
@@ -45,8 +46,8 @@ impl State {
         for attempt in stored.attempts {
             self.take_up_attempt(&attempt, &texts);
         }
-        for (id, handings) in stored.untold {
-            if let Some(attempt) = self.untold_attempt(id, handings) {
+        for (id, receipts) in stored.untold {
+            if let Some(attempt) = self.untold_attempt(id, receipts) {
                 self.take_up_attempt(&attempt, &texts);
             }
         }
@@ -89,7 +90,7 @@ impl State {
             let message = self.messages.get(*sequence)?;
             let is_held = message.ordinal == *ordinal && message.until() == entry.until;
             let (last, (group, envelope)) = (message.last.filter(|_| is_held)?, texts.get(sequence)?);
-            let receipt = Receipt { sequence: *sequence, ordinal: *ordinal };
+            let receipt = self.receipt(*sequence, *ordinal);
             let (moment, first, group) = (last.moment, last.first, group.to_string());
             Some(Handed { receipt, moment, first, group, envelope: envelope.clone() })
         };
@@ -103,13 +104,14 @@ impl State {
 
     /// What an attempt was given by a request that handed out these messages, if they are all in flight since then. What wasn't
     /// for the client isn't among them: it comes back by itself.
-    fn untold_attempt(&self, id: AttemptId, handed: Vec<(u64, u64)>) -> Option<AttemptEntry> {
-        let (moment, until) = handed.iter().find_map(|(sequence, _)| {
-            let message = self.messages.get(*sequence)?;
+    fn untold_attempt(&self, id: AttemptId, receipts: Vec<Receipt>) -> Option<AttemptEntry> {
+        let (moment, until) = receipts.iter().find_map(|receipt| {
+            let message = self.messages.get(receipt.sequence)?;
             Some((message.last?.moment, message.until()))
         })?;
-        let handed = handed.into_iter().filter(|(sequence, ordinal)| self.is_for_client(*sequence, *ordinal, moment));
-        Some(AttemptEntry { mark: self.entry.mark, id, moment, until, handed: handed.collect() })
+        let handed = receipts.into_iter().map(|Receipt { sequence, ordinal, .. }| (sequence, ordinal));
+        let handed = handed.filter(|(sequence, ordinal)| self.is_for_client(*sequence, *ordinal, moment)).collect();
+        Some(AttemptEntry { mark: self.entry.mark, id, moment, until, handed })
     }
 
     /// Whether a message that was handed out so often by then is for clients. A jump of the clock may make it younger.

@@ -46,8 +46,12 @@ fn send(state: &mut State, place: u64, moment: Moment) {
         .unwrap();
 }
 
+fn handing(sequence: u64, ordinal: u64) -> Receipt {
+    Receipt { incarnation: 1, sequence, ordinal }
+}
+
 fn delete(state: &mut State, sequence: u64, moment: Moment) {
-    let receipt = Receipt { sequence, ordinal: 1 };
+    let receipt = handing(sequence, 1);
     let ask = Ask::Delete { receipt, by_client: true };
     state.apply_reply(&ask, StoreReply::Deleted(true), moment, &Jumps::default()).unwrap();
 }
@@ -82,7 +86,7 @@ fn what_is_deleted_counts_by_its_id_until_that_is_too_old() {
 
 fn receive(state: &mut State, ordinal: u64, moment: Moment) -> (Vec<Handed>, Vec<(Handed, Fate)>) {
     let ask = Ask::Receive { size: 1, visibility: 5, attempt: None, most: Some(2), reach: Reach::All };
-    let (group, receipt) = ("g".into(), format!("1-1-{ordinal}"));
+    let (group, receipt) = ("g".into(), handing(1, ordinal));
     let given = crate::lines::StoreMessage { group, receipt, body: "b".into() };
     let applied = state.apply_reply(&ask, StoreReply::Received(vec![given]), moment, &Jumps::default()).unwrap();
     match applied.outcome {
@@ -95,10 +99,7 @@ fn receive(state: &mut State, ordinal: u64, moment: Moment) -> (Vec<Handed>, Vec
 fn what_was_handed_out_too_often_is_set_aside_and_earlier_handles_are_known() {
     let mut state = state();
     send(&mut state, 1, 0);
-    let handle = |ordinal, moment| {
-        let receipt = Receipt { sequence: 1, ordinal };
-        Handle { mark: crate::handles::Mark(1), receipt, moment }
-    };
+    let handle = |ordinal, moment| Handle::new(crate::handles::Mark(1), handing(1, ordinal), moment);
     assert!(state.receipt_of(&handle(1, 10_000)).is_err(), "nobody had it");
     let given = &receive(&mut state, 1, 10_000).0[0];
     assert_eq!((given.receipt.ordinal, given.first), (1, 10_000));
@@ -114,7 +115,7 @@ fn what_was_handed_out_too_often_is_set_aside_and_earlier_handles_are_known() {
     // Two handings are as many as there may be.
     let (handed, set_aside) = receive(&mut state, 3, 40_000);
     assert_eq!((handed.len(), set_aside[0].1, set_aside[0].0.receipt.ordinal), (0, Fate::Dead, 3));
-    assert_eq!(state.last_receipt_of(1), Some(Receipt { sequence: 1, ordinal: 3 }));
+    assert_eq!(state.last_receipt_of(1), Some(handing(1, 3)));
 }
 
 #[test]
@@ -122,7 +123,6 @@ fn what_no_client_has_is_told_by_its_last_handing_alone() {
     let mut state = state();
     let policy = r#"{"deadLetterTargetArn":"arn:aws:sqs:x:000000000000:dead.fifo","maxReceiveCount":2}"#;
     send(&mut state, 1, 0);
-    let receipt = |ordinal| Receipt { sequence: 1, ordinal };
     let jumps = Jumps::default();
     let change =
         TableChange::Attributes(GivenAttributes::read(state.kind, &[("RedrivePolicy".into(), policy.into())]).unwrap());
@@ -135,12 +135,12 @@ fn what_no_client_has_is_told_by_its_last_handing_alone() {
     receive(&mut state, 4, 30_001);
     assert!(state.cut_off(Some(30_001), &jumps, 30_001).is_empty(), "the target may have come after it");
     assert!(state.cut_off(None, &jumps, 30_001).is_empty(), "there is no target");
-    assert_eq!(state.cut_off(Some(30_000), &jumps, 30_001), [(receipt(4), Fate::Dead)]);
+    assert_eq!(state.cut_off(Some(30_000), &jumps, 30_001), [(handing(1, 4), Fate::Dead)]);
     assert!(state.is_set_aside(1, 30_000) && !state.is_set_aside(1, 30_001) && !state.is_set_aside(2, 0));
     assert!(state.cut_off(Some(30_000), &jumps, 35_001).is_empty(), "it isn't in flight any more");
     let four_days = 345_600_000;
     receive(&mut state, 5, four_days);
-    assert_eq!(state.cut_off(None, &jumps, four_days), [(receipt(5), Fate::Old)]);
+    assert_eq!(state.cut_off(None, &jumps, four_days), [(handing(1, 5), Fate::Old)]);
 }
 
 #[test]
@@ -197,8 +197,7 @@ fn a_delayed_message_is_due_until_it_has_a_copy() {
 }
 
 fn given(places: std::ops::RangeInclusive<u64>) -> StoreReply {
-    let given =
-        |place| crate::lines::StoreMessage { group: "g".into(), receipt: format!("1-{place}-1"), body: "b".into() };
+    let given = |place| crate::lines::StoreMessage { group: "g".into(), receipt: handing(place, 1), body: "b".into() };
     StoreReply::Received(places.map(given).collect())
 }
 
@@ -210,8 +209,7 @@ fn a_queue_has_at_most_120_000_messages_in_flight() {
         let mut state = state_of(name);
         (1..=most).for_each(|place| drop(send_standard(&mut state, place, 0, Cause::Client, 0)));
         state.apply_reply(&ask, given(1..=most - 1), 1000, &Jumps::default()).unwrap();
-        let same_end =
-            Ask::ChangeVisibility { receipt: Receipt { sequence: 1, ordinal: 1 }, visibility: 5, by: Changer::Client };
+        let same_end = Ask::ChangeVisibility { receipt: handing(1, 1), visibility: 5, by: Changer::Client };
         state.apply_reply(&same_end, StoreReply::Changed, 1000, &Jumps::default()).unwrap();
         assert!(!state.has_most_in_flight(1000));
         state.apply_reply(&ask, given(most..=most), 2000, &Jumps::default()).unwrap();

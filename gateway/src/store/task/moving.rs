@@ -39,9 +39,9 @@ impl Task {
         if copies.len() > self.clients.count() {
             return Ok(StartOutcome::WaitsForAnswer(source, Operation::Move { target, copies }));
         }
-        let (stored, removed) = {
+        let (store, removed) = {
             let state = target.state();
-            (state.stored_as(), state.removed)
+            (state.entry.store, state.removed)
         };
         if removed || copies.is_empty() {
             return Ok(StartOutcome::ready(Err(SqsError::QueueDoesNotExist)));
@@ -51,7 +51,7 @@ impl Task {
         let copies: Vec<_> =
             copies.into_iter().map(|copy| Copy { ask: stamped(copy.ask, &target, moment), ..copy }).collect();
         for copy in &copies {
-            asked.push(frames::ask(&AskFields::of(stored, &copy.ask))?);
+            asked.push(frames::ask(&AskFields::of(store, &copy.ask))?);
         }
         self.moving = Some(Moving { source, left: copies.len(), copied: Vec::new(), sender: sender.take() });
         for (copy, written) in copies.into_iter().zip(asked) {
@@ -87,13 +87,13 @@ impl Task {
     fn delete_originals(&mut self) -> Result<(), Ended> {
         let Some(Moving { source, copied, sender, .. }) = self.moving.take() else { return Ok(()) };
         let moment = self.clock.now();
-        let stored = source.state().stored_as();
+        let store = source.state().entry.store;
         let mut is_begun = false;
         for original in copied {
             let receipt = source.state().last_receipt_of(original);
             let Some(receipt) = receipt else { continue };
             let ask = Ask::Delete { receipt, by_client: false };
-            let written = frames::ask(&AskFields::of(stored, &ask))?;
+            let written = frames::ask(&AskFields::of(store, &ask))?;
             self.begin(source.clone(), ask, written, moment, None);
             is_begun = true;
         }

@@ -8,13 +8,13 @@ use super::{chain, Ended, Task, PIECE};
 use crate::clock::Moment;
 use crate::errors::SqsError;
 use crate::frames;
-use crate::handles::Receipt;
 use crate::limits::{GONE_NAME_BYTES, STORED_NAME_BYTES};
 use crate::lines::AskFields;
-use crate::queues::ask::{Ask, Cause, Outcome, StoreName, StoredAs, TableChange};
+use crate::queues::ask::{Ask, Cause, Outcome, StoreName, TableChange};
 use crate::queues::book::{self, AttemptRequest};
 use crate::queues::Queue;
 use crate::store::Operation;
+use crate::store_bytes::Receipt;
 use crate::texts::{DedupId, QueueKind};
 
 impl Task {
@@ -77,10 +77,10 @@ impl Task {
     fn start_ask(&mut self, queue: Arc<Queue>, ask: Ask) -> Result<StartOutcome, Ended> {
         let ready = |answer| Ok(StartOutcome::ready(answer));
         let moment = self.clock.now();
-        let (stored, removed, is_rescoped) = {
+        let (store, removed, is_rescoped) = {
             let state = queue.state();
             let is_rescoped = state.has_ids_of_other_scope(moment);
-            (state.stored_as(), state.removed, is_rescoped)
+            (state.entry.store, state.removed, is_rescoped)
         };
         // The store may have it for a while.
         if removed {
@@ -117,7 +117,7 @@ impl Task {
             }
         }
         let ask = stamped(ask, &queue, moment);
-        let written = frames::ask(&AskFields::of(stored, &ask))?;
+        let written = frames::ask(&AskFields::of(store, &ask))?;
         if !self.takes_names(&ask) {
             self.counters.count_lack_of_room();
             return ready(Err(SqsError::OverLimit("There is no room for the names of more queues.".into())));
@@ -216,7 +216,7 @@ impl Task {
         let Some(book) = self.queues.books().current(self.shard.place()) else { return Ok(true) };
         let Some(client) = self.clients.take(false) else { return Ok(false) };
         let ask = Ask::Say { book, text: entry.text()?, entry: Arc::new(entry) };
-        let written = frames::ask(&AskFields::of(StoredAs::first(StoreName::of_book(book)), &ask))?;
+        let written = frames::ask(&AskFields::of(StoreName::of_book(book), &ask))?;
         let (queue, number) = (queue.clone(), self.next_number());
         let asked =
             OpenAsk { queue, ask, written, moment, client, number, weight: 0, ends: 0, is_done: false, original: None };
@@ -364,7 +364,7 @@ impl Task {
         };
         let text = entry.text()?;
         let ask = Ask::Say { book, entry: Arc::new(entry), text };
-        let written = frames::ask(&AskFields::of(StoredAs::first(StoreName::of_book(book)), &ask))?;
+        let written = frames::ask(&AskFields::of(StoreName::of_book(book), &ask))?;
         self.ask_admitted(queue, ask, written, self.clock.now(), weight)
     }
 }

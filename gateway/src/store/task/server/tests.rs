@@ -11,7 +11,6 @@ use tokio::task::JoinHandle;
 use super::*;
 use crate::clock::Clock;
 use crate::cq::Cq;
-use crate::handles::Receipt;
 use crate::messages::Envelope;
 use crate::moves::Origin;
 use crate::queues::ask::{Ask, Cause, Outcome, StoreName};
@@ -20,6 +19,7 @@ use crate::queues::shards::Shards;
 use crate::queues::{Queue, Queues};
 use crate::store::task::{start, Ends, Kept, Start};
 use crate::store::{Answer as Answered, Copy, Store};
+use crate::store_bytes::Receipt;
 use crate::texts::{DedupId, GroupId, QueueName};
 
 /// The other end of the gateway's pipe.
@@ -165,7 +165,7 @@ fn send(id: &str) -> Ask {
 }
 
 fn delete(sequence: u64) -> Ask {
-    Ask::Delete { receipt: Receipt { sequence, ordinal: 1 }, by_client: false }
+    Ask::Delete { receipt: Receipt { incarnation: 1, sequence, ordinal: 1 }, by_client: false }
 }
 
 /// Asks beside all else.
