@@ -1,7 +1,7 @@
 //! The protocol of Amazon SQS (API 2012-11-05) in front of `cq`, the program that keeps FIFO queues and is proved.
 //!
 //! A request is read by one of two codecs (`wire`), its action (`actions`) becomes asks, and the store's task (`store`)
-//! gives them as frames (`frames`) to the program (`cq`), which keeps them (`journal`). What comes back changes the tables
+//! gives their bytes (`store_bytes`) to the program (`cq`), which keeps them (`journal`). What comes back changes the tables
 //! (`queues`), and goes to the client (`http`).
 
 mod access;
@@ -24,7 +24,6 @@ mod disk;
 mod draw;
 mod ending;
 mod errors;
-mod frames;
 mod front;
 mod handles;
 mod history;
@@ -33,7 +32,6 @@ mod inspect;
 mod journal;
 mod journal_file;
 mod limits;
-mod lines;
 mod log;
 mod messages;
 mod metrics;

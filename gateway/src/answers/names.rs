@@ -2,9 +2,7 @@
 
 use std::collections::HashMap;
 
-use crate::history::stored::Request;
-use crate::lines::StoreReply;
-use crate::store_bytes::Part;
+use crate::store_bytes::{Part, StoreReply, StoreRequest};
 
 /// The queues of a store that live, behind the answers so far.
 #[derive(Default)]
@@ -36,7 +34,7 @@ impl Names {
 
     /// The incarnation to which a request went that was answered so: of a repeat that of the first one. 0: it went to none, or that isn't
     /// known.
-    pub fn incarnation(&mut self, request: &Request, reply: &StoreReply) -> u64 {
+    pub fn incarnation(&mut self, request: &StoreRequest, reply: &StoreReply) -> u64 {
         if let Some(last) = self.clients.get(&request.client).filter(|last| request.number <= last.number) {
             return last.incarnation;
         }
@@ -55,13 +53,13 @@ impl Names {
 mod tests {
     use super::*;
 
-    use crate::history::stored::Ask;
+    use crate::store_bytes::StoreAsk;
 
     #[test]
     fn a_send_goes_to_the_incarnation_that_lives_and_a_repeat_to_that_of_the_first() {
         let mut names = Names::default();
         let mut of = |client: u32, number: u64, reply: StoreReply| {
-            names.incarnation(&Request { client, number, queue: "q.fifo".into(), ask: Ask::Remove }, &reply)
+            names.incarnation(&StoreRequest { client, number, queue: "q.fifo".into(), ask: StoreAsk::Remove }, &reply)
         };
         of(1, 1, StoreReply::Created(1));
         assert_eq!(of(1, 2, StoreReply::Sent(1)), 1);

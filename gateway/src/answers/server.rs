@@ -16,13 +16,11 @@ use super::names::Names;
 use super::{Source, Told};
 use crate::clock::Moment;
 use crate::cq::{Cq, CqError};
-use crate::frames::{read_answer, read_entry, BadFrame};
 use crate::history::line::Line;
-use crate::history::stored::{line_of_chunk, Request};
+use crate::history::stored::{line_of_chunk, line_of_request, told};
 use crate::journal_file::{JournalFile, JournalFileError, Kept};
-use crate::lines::StoreReply;
 use crate::pipes::{Input, Output};
-use crate::store_bytes::{Part, StoreReader};
+use crate::store_bytes::{BadFrame, Part, StoreAnswer, StoreEntry, StoreReader, StoreReply, StoreRequest};
 
 /// So many bytes are written at once, or a little more.
 const BATCH: usize = 64 * 1024;
@@ -41,7 +39,7 @@ enum Given {
     Chunk(Vec<u8>),
     /// Behind the last chunk.
     EndOfStore,
-    Entry(Moment, Request),
+    Entry(Moment, StoreRequest),
 }
 
 /// Why there are no more lines.
@@ -116,19 +114,18 @@ impl Giving {
                 out.extend(Command::Load(Bytes::new()).frame());
                 Given::EndOfStore
             }
-            Some(Kept::Entry(entry)) => self.arrival(entry, out)?,
+            Some(Kept::Entry(entry)) => self.arrival(&entry, out)?,
         };
         Ok(Some(given))
     }
 
-    fn arrival(&mut self, entry: Vec<u8>, out: &mut Vec<u8>) -> Result<Given, JournalFileError> {
-        let read = read_entry(Bytes::from(entry));
-        let (moment, request, written) = read.map_err(|_| self.journal.damaged())?;
+    fn arrival(&mut self, entry: &[u8], out: &mut Vec<u8>) -> Result<Given, JournalFileError> {
+        let StoreEntry { moment, request, written } = StoreEntry::read(entry).map_err(|_| self.journal.damaged())?;
         if moment < self.last {
             return Err(self.journal.damaged());
         }
         self.last = moment;
-        append_arrival(out, STREAM, moment, |out| out.extend_from_slice(&written));
+        append_arrival(out, STREAM, moment, |out| out.extend_from_slice(written));
         Ok(Given::Entry(moment, request))
     }
 }
@@ -185,11 +182,11 @@ impl Telling<'_> {
         Ok(line_of_chunk(self.file, self.begin, chunk))
     }
 
-    async fn entry(&mut self, moment: Moment, request: &Request) -> Result<Line, Halt> {
+    async fn entry(&mut self, moment: Moment, request: &StoreRequest) -> Result<Line, Halt> {
         let reply = self.answers.to(request).await?;
         let incarnation = self.names.incarnation(request, &reply);
-        let told = request.told(incarnation, &reply).ok_or_else(other)?;
-        Ok(request.line(self.file, moment, told))
+        let told = told(request, incarnation, &reply).ok_or_else(other)?;
+        Ok(line_of_request(request, self.file, moment, told))
     }
 }
 
@@ -217,12 +214,12 @@ impl Answers<'_> {
     }
 
     /// The reply to the next request.
-    async fn to(&mut self, request: &Request) -> Result<StoreReply, Halt> {
+    async fn to(&mut self, request: &StoreRequest) -> Result<StoreReply, Halt> {
         let mut reply = None;
         loop {
             match self.next().await? {
                 Response::Put { to: Party::Clients, piece, .. } if reply.is_none() => {
-                    let answer = read_answer(piece).map_err(BadFrame)?;
+                    let answer = StoreAnswer::read(&piece).map_err(BadFrame::from)?;
                     if (answer.client, answer.number, answer.is_of_query) != (request.client, request.number, false) {
                         return Err(other().into());
                     }

@@ -27,7 +27,7 @@ use finding::{Finding, Judged};
 use line::Line;
 use service::Service;
 use store::{Loading, Store};
-use stored::{chunk_of, Request, LOAD};
+use stored::{chunk_of, request_of, LOAD};
 
 /// What is said of a whole history.
 #[derive(Clone, Copy, Debug, Default, PartialEq, Eq)]
@@ -86,7 +86,7 @@ impl Judges {
         if line.action == LOAD {
             return self.load(of.file, &chunk_of(line)?).map(|()| Ok(Judged::Not));
         }
-        let request = Request::of(line, of)?;
+        let request = request_of(line, of)?;
         Ok(self.store(of.file)?.judge(line, &request))
     }
 

@@ -1,11 +1,10 @@
-//! What a store is asked and answers (`docs/QUEUES.md`), and how a line of a history has it.
+//! How a line of a history has what a store is asked and answers (`docs/QUEUES.md`).
 
 use serde_json::{json, Value};
 
 use super::line::{attributes, number, text, Line, Members, OfStore, Refusal};
 use crate::digests::md5_of_text;
-use crate::lines::{StoreMessage, StoreReply};
-use crate::store_bytes::Receipt;
+use crate::store_bytes::{Delivery, Receipt, StoreAsk, StoreReply, StoreRequest};
 
 /// The numbers of refusals.
 pub const NO_QUEUE: u32 = 1;
@@ -16,27 +15,6 @@ pub const NOT_IN_FLIGHT: u32 = 5;
 pub const BEYOND_LIMIT: u32 = 6;
 pub const STALE: u32 = 7;
 pub const NO_ID: u32 = 8;
-
-/// A request of a client.
-#[derive(Clone, Debug, PartialEq, Eq)]
-pub struct Request {
-    pub client: u32,
-    pub number: u64,
-    /// The name of a queue in the store.
-    pub queue: String,
-    pub ask: Ask,
-}
-
-/// What is asked of a queue. Timeouts are in seconds.
-#[derive(Clone, Debug, PartialEq, Eq)]
-pub enum Ask {
-    Create { timeout: u32, makes_ids: bool },
-    Remove,
-    Send { group: String, dedup: Option<String>, body: String },
-    Receive { size: u32, timeout: Option<u32> },
-    Delete { receipt: Receipt },
-    Change { receipt: Receipt, timeout: u32 },
-}
 
 /// A receipt as a line has it: its numbers with hyphens between them.
 fn receipt_text(receipt: Receipt) -> String {
@@ -77,119 +55,115 @@ pub fn chunk_of(line: &Line) -> Result<Vec<u8>, String> {
     base64::decode(chunk).map_err(|_| bad(CHUNK))
 }
 
-impl Ask {
-    fn action(&self) -> &'static str {
-        match self {
-            Ask::Create { .. } => "CreateQueue",
-            Ask::Remove => "DeleteQueue",
-            Ask::Send { .. } => "SendMessage",
-            Ask::Receive { .. } => "ReceiveMessage",
-            Ask::Delete { .. } => "DeleteMessage",
-            Ask::Change { .. } => "ChangeMessageVisibility",
-        }
+fn action_of(ask: &StoreAsk) -> &'static str {
+    match ask {
+        StoreAsk::Create { .. } => "CreateQueue",
+        StoreAsk::Remove => "DeleteQueue",
+        StoreAsk::Send { .. } => "SendMessage",
+        StoreAsk::Receive { .. } => "ReceiveMessage",
+        StoreAsk::Delete { .. } => "DeleteMessage",
+        StoreAsk::Change { .. } => "ChangeMessageVisibility",
     }
 }
 
-impl Request {
-    /// The line of this request to the store of the file of this number, at this moment.
-    pub fn line(&self, file: u64, at: u64, told: Told) -> Line {
-        let (answer, error) = match told {
-            Ok(answer) => (Some(answer), None),
-            Err(code) => (None, Some(Refusal { code })),
-        };
-        let store = Some(OfStore { file, client: Some(self.client), number: Some(self.number) });
-        Line { at, store, action: self.ask.action().into(), request: self.members(), answer, error }
-    }
+/// The line of a request to the store of the file of this number, at this moment.
+pub fn line_of_request(request: &StoreRequest, file: u64, at: u64, told: Told) -> Line {
+    let (answer, error) = match told {
+        Ok(answer) => (Some(answer), None),
+        Err(code) => (None, Some(Refusal { code })),
+    };
+    let store = Some(OfStore { file, client: Some(request.client), number: Some(request.number) });
+    Line { at, store, action: action_of(&request.ask).into(), request: members_of(request), answer, error }
+}
 
-    fn members(&self) -> Members {
-        let mut members = Members::new();
-        let mut put = |name: &str, value: Value| drop(members.insert(name.into(), value));
-        let name = if matches!(self.ask, Ask::Create { .. }) { "QueueName" } else { "QueueUrl" };
-        put(name, self.queue.as_str().into());
-        match &self.ask {
-            Ask::Create { timeout, makes_ids } => {
-                let (timeout, makes_ids) = (timeout.to_string(), makes_ids.to_string());
-                let given =
-                    json!({"FifoQueue": "true", "VisibilityTimeout": timeout, "ContentBasedDeduplication": makes_ids});
-                put("Attributes", given);
+fn members_of(request: &StoreRequest) -> Members {
+    let mut members = Members::new();
+    let mut put = |name: &str, value: Value| drop(members.insert(name.into(), value));
+    let name = if matches!(request.ask, StoreAsk::Create { .. }) { "QueueName" } else { "QueueUrl" };
+    put(name, request.queue.as_str().into());
+    match &request.ask {
+        StoreAsk::Create { timeout, makes_ids } => {
+            let (timeout, makes_ids) = (timeout.to_string(), makes_ids.to_string());
+            let given =
+                json!({"FifoQueue": "true", "VisibilityTimeout": timeout, "ContentBasedDeduplication": makes_ids});
+            put("Attributes", given);
+        }
+        StoreAsk::Remove => {}
+        StoreAsk::Send { group, dedup, body } => {
+            put("MessageGroupId", group.as_str().into());
+            dedup.iter().for_each(|dedup| put("MessageDeduplicationId", dedup.as_str().into()));
+            put("MessageBody", body.as_str().into());
+        }
+        StoreAsk::Receive { size, timeout } => {
+            put("MaxNumberOfMessages", (*size).into());
+            timeout.iter().for_each(|timeout| put("VisibilityTimeout", (*timeout).into()));
+        }
+        StoreAsk::Delete { receipt } => put("ReceiptHandle", receipt_text(*receipt).into()),
+        StoreAsk::Change { receipt, timeout } => {
+            put("ReceiptHandle", receipt_text(*receipt).into());
+            put("VisibilityTimeout", (*timeout).into());
+        }
+    }
+    members
+}
+
+/// The request of a line of a store, or why it is none.
+pub fn request_of(line: &Line, store: OfStore) -> Result<StoreRequest, String> {
+    let members = &line.request;
+    let given = |name: &str| text(members, name).map(String::from).ok_or_else(|| missing(name));
+    let count =
+        |name: &str| number(members, name).map(|number| u32::try_from(number).map_err(|_| bad(name))).transpose();
+    let needed = |name: &str| count(name)?.ok_or_else(|| missing(name));
+    let receipt = || read_receipt(&given("ReceiptHandle")?);
+    let queue = if line.action == "CreateQueue" { "QueueName" } else { "QueueUrl" };
+    let ask = match line.action.as_str() {
+        "CreateQueue" => created(members)?,
+        "DeleteQueue" => StoreAsk::Remove,
+        "SendMessage" => StoreAsk::Send {
+            group: given("MessageGroupId")?,
+            dedup: text(members, "MessageDeduplicationId").map(String::from),
+            body: given("MessageBody")?,
+        },
+        "ReceiveMessage" => {
+            StoreAsk::Receive { size: needed("MaxNumberOfMessages")?, timeout: count("VisibilityTimeout")? }
+        }
+        "DeleteMessage" => StoreAsk::Delete { receipt: receipt()? },
+        "ChangeMessageVisibility" => StoreAsk::Change { receipt: receipt()?, timeout: needed("VisibilityTimeout")? },
+        other => return Err(format!("a store knows no {other}")),
+    };
+    let (client, number) = (store.client, store.number);
+    let (client, number) = client.zip(number).ok_or_else(|| missing("client or no number"))?;
+    Ok(StoreRequest { client, number, queue: given(queue)?, ask })
+}
+
+/// How the store's reply to a request stands in a line. `incarnation` is that of the queue to which a message was sent; where it is
+/// 0, that isn't known, and no MessageId is told. None: it is the reply to no request.
+pub fn told(request: &StoreRequest, incarnation: u64, reply: &StoreReply) -> Option<Told> {
+    let mut answer = Members::new();
+    let mut put = |name: &str, value: Value| drop(answer.insert(name.into(), value));
+    match reply {
+        StoreReply::Created(incarnation) => {
+            put("QueueUrl", request.queue.as_str().into());
+            put("Incarnation", (*incarnation).into());
+        }
+        StoreReply::Removed | StoreReply::Changed => {}
+        StoreReply::Sent(sequence) => {
+            if incarnation > 0 {
+                put("MessageId", format!("{incarnation}-{sequence}").into());
             }
-            Ask::Remove => {}
-            Ask::Send { group, dedup, body } => {
-                put("MessageGroupId", group.as_str().into());
-                dedup.iter().for_each(|dedup| put("MessageDeduplicationId", dedup.as_str().into()));
-                put("MessageBody", body.as_str().into());
-            }
-            Ask::Receive { size, timeout } => {
-                put("MaxNumberOfMessages", (*size).into());
-                timeout.iter().for_each(|timeout| put("VisibilityTimeout", (*timeout).into()));
-            }
-            Ask::Delete { receipt } => put("ReceiptHandle", receipt_text(*receipt).into()),
-            Ask::Change { receipt, timeout } => {
-                put("ReceiptHandle", receipt_text(*receipt).into());
-                put("VisibilityTimeout", (*timeout).into());
+            put("SequenceNumber", sequence.to_string().into());
+            if let StoreAsk::Send { body, .. } = &request.ask {
+                put("MD5OfMessageBody", md5_of_text(body).into());
             }
         }
-        members
-    }
-
-    /// The request of a line of a store, or why it is none.
-    pub fn of(line: &Line, store: OfStore) -> Result<Request, String> {
-        let members = &line.request;
-        let given = |name: &str| text(members, name).map(String::from).ok_or_else(|| missing(name));
-        let count =
-            |name: &str| number(members, name).map(|number| u32::try_from(number).map_err(|_| bad(name))).transpose();
-        let needed = |name: &str| count(name)?.ok_or_else(|| missing(name));
-        let receipt = || read_receipt(&given("ReceiptHandle")?);
-        let queue = if line.action == "CreateQueue" { "QueueName" } else { "QueueUrl" };
-        let ask = match line.action.as_str() {
-            "CreateQueue" => created(members)?,
-            "DeleteQueue" => Ask::Remove,
-            "SendMessage" => Ask::Send {
-                group: given("MessageGroupId")?,
-                dedup: text(members, "MessageDeduplicationId").map(String::from),
-                body: given("MessageBody")?,
-            },
-            "ReceiveMessage" => {
-                Ask::Receive { size: needed("MaxNumberOfMessages")?, timeout: count("VisibilityTimeout")? }
-            }
-            "DeleteMessage" => Ask::Delete { receipt: receipt()? },
-            "ChangeMessageVisibility" => Ask::Change { receipt: receipt()?, timeout: needed("VisibilityTimeout")? },
-            other => return Err(format!("a store knows no {other}")),
-        };
-        let (client, number) = (store.client, store.number);
-        let (client, number) = client.zip(number).ok_or_else(|| missing("client or no number"))?;
-        Ok(Request { client, number, queue: given(queue)?, ask })
-    }
-
-    /// How the store's reply stands in a line. `incarnation` is that of the queue to which a message was sent; where it is 0, that isn't
-    /// known, and no MessageId is told. None: it is the reply to no request.
-    pub fn told(&self, incarnation: u64, reply: &StoreReply) -> Option<Told> {
-        let mut answer = Members::new();
-        let mut put = |name: &str, value: Value| drop(answer.insert(name.into(), value));
-        match reply {
-            StoreReply::Created(incarnation) => {
-                put("QueueUrl", self.queue.as_str().into());
-                put("Incarnation", (*incarnation).into());
-            }
-            StoreReply::Removed | StoreReply::Changed => {}
-            StoreReply::Sent(sequence) => {
-                if incarnation > 0 {
-                    put("MessageId", format!("{incarnation}-{sequence}").into());
-                }
-                put("SequenceNumber", sequence.to_string().into());
-                if let Ask::Send { body, .. } = &self.ask {
-                    put("MD5OfMessageBody", md5_of_text(body).into());
-                }
-            }
-            StoreReply::Received(messages) => {
-                put("Messages", messages.iter().map(handed).collect::<Vec<_>>().into());
-            }
-            StoreReply::Deleted(removed) => put("Removed", (*removed).into()),
-            StoreReply::Refused(refusal) => return Some(Err(code(*refusal)?.into())),
-            StoreReply::Counts { .. } => return None,
+        StoreReply::Received(messages) => {
+            put("Messages", messages.iter().map(handed).collect::<Vec<_>>().into());
         }
-        Some(Ok(answer))
+        StoreReply::Deleted(removed) => put("Removed", (*removed).into()),
+        StoreReply::Refused(refusal) => return Some(Err(code(*refusal)?.into())),
+        StoreReply::Counts { .. } => return None,
     }
+    Some(Ok(answer))
 }
 
 fn missing(name: &str) -> String {
@@ -200,7 +174,7 @@ fn bad(name: &str) -> String {
     format!("its {name} is none of a store's")
 }
 
-fn created(members: &Members) -> Result<Ask, String> {
+fn created(members: &Members) -> Result<StoreAsk, String> {
     let given = attributes(members, "Attributes");
     let value = |name: &str| given.iter().find(|(known, _)| known == name).map(|(_, value)| value.as_str());
     let timeout =
@@ -210,11 +184,11 @@ fn created(members: &Members) -> Result<Ask, String> {
         Some("false") => false,
         _ => return Err(bad("ContentBasedDeduplication")),
     };
-    Ok(Ask::Create { timeout, makes_ids })
+    Ok(StoreAsk::Create { timeout, makes_ids })
 }
 
-fn handed(message: &StoreMessage) -> Value {
-    let StoreMessage { body, group, receipt } = message;
+fn handed(message: &Delivery) -> Value {
+    let Delivery { receipt, group, body } = message;
     let Receipt { incarnation, sequence, ordinal } = receipt;
     json!({
         "MessageId": format!("{incarnation}-{sequence}"),

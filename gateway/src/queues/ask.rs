@@ -1,6 +1,7 @@
 //! What is asked of the store, and what comes of it.
 
 use std::collections::BTreeMap;
+use std::fmt;
 use std::sync::Arc;
 
 use serde::{Deserialize, Serialize};
@@ -62,16 +63,6 @@ impl StoreName {
         (self.0 & (PARTS | DELAYS) == DELAYS).then_some(StoreName(self.0 & !DELAYS))
     }
 
-    /// The name as the store's rules want it.
-    pub fn text(self) -> String {
-        match (self.parts(), self.main(), self.book()) {
-            (Some(number), ..) => format!("b{number}.fifo"),
-            (_, Some(main), _) => format!("{}d.fifo", main.0),
-            (.., Some(number)) => format!("book{number}.fifo"),
-            (None, None, None) => format!("{}.fifo", self.0),
-        }
-    }
-
     pub fn parse(text: &str) -> Option<StoreName> {
         let number = text.strip_suffix(".fifo")?;
         let name = if let Some(number) = number.strip_prefix("book") {
@@ -83,7 +74,19 @@ impl StoreName {
         } else {
             StoreName(number.parse().ok()?)
         };
-        Some(name).filter(|name| name.text() == text)
+        Some(name).filter(|name| name.to_string() == text)
+    }
+}
+
+/// The name as the store's rules want it.
+impl fmt::Display for StoreName {
+    fn fmt(&self, out: &mut fmt::Formatter<'_>) -> fmt::Result {
+        match (self.parts(), self.main(), self.book()) {
+            (Some(number), ..) => write!(out, "b{number}.fifo"),
+            (_, Some(main), _) => write!(out, "{}d.fifo", main.0),
+            (.., Some(number)) => write!(out, "book{number}.fifo"),
+            (None, None, None) => write!(out, "{}.fifo", self.0),
+        }
     }
 }
 
@@ -97,7 +100,7 @@ impl TryFrom<String> for StoreName {
 
 impl From<StoreName> for String {
     fn from(name: StoreName) -> String {
-        name.text()
+        name.to_string()
     }
 }
 

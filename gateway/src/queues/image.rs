@@ -266,13 +266,13 @@ impl Queues {
         let (books, mut living): (BTreeMap<_, _>, BTreeMap<_, _>) = living.partition(|(name, _)| name.book().is_some());
         test_forms(&books)?;
         if let Some(store) = image.foreign {
-            return Err(ImageError::Foreign(store.text(), "a message of it is no envelope"));
+            return Err(ImageError::Foreign(store.to_string(), "a message of it is no envelope"));
         }
         let Told { by_mark, mut attempts, mut asked, .. } = self.take_up_books(shard, books)?;
         let is_there = |queue: &Arc<Queue>| self.find(&queue.name).is_some_and(|found| Arc::ptr_eq(&found, queue));
         for (mark, queue) in by_mark.into_iter().filter(|(_, queue)| is_there(queue)) {
             let store = queue.state().entry.store;
-            let not_there = || ImageError::Foreign(store.text(), "a book says of it, and it isn't there");
+            let not_there = || ImageError::Foreign(store.to_string(), "a book says of it, and it isn't there");
             let mut stored = living.remove(&store).ok_or_else(not_there)?;
             stored.attempts = attempts.remove(&mark).unwrap_or_default();
             let asked = asked.remove(&mark).unwrap_or_default();
@@ -381,12 +381,12 @@ fn in_order(shard: Shard, books: BTreeMap<StoreName, StoredQueue>) -> Result<Rea
 }
 
 fn entries_of(shard: Shard, name: StoreName, book: StoredQueue) -> Result<Vec<(Entry, u64)>, ImageError> {
-    let no_entry = |_| ImageError::Foreign(name.text(), "a message of it is no entry of a book");
+    let no_entry = |_| ImageError::Foreign(name.to_string(), "a message of it is no entry of a book");
     let read = |text: &String| Ok((serde_json::from_str(text).map_err(no_entry)?, size_of_text(text)));
     let entries = book.entries.iter().map(read).collect::<Result<Vec<(Entry, u64)>, ImageError>>()?;
     if !entries.iter().all(|(entry, _)| is_of_program(entry, shard)) {
         let why = "it is that of another program, or of another number of programs (--shards)";
-        return Err(ImageError::Foreign(name.text(), why));
+        return Err(ImageError::Foreign(name.to_string(), why));
     }
     Ok(entries)
 }

@@ -10,6 +10,7 @@ pub mod shards;
 mod state;
 #[cfg(test)]
 mod tests;
+mod written;
 
 use std::collections::{BTreeMap, HashMap};
 use std::sync::atomic::{AtomicU64, Ordering};
@@ -23,12 +24,11 @@ use crate::delays::Alarms;
 use crate::errors::SqsError;
 use crate::handles::{Handle, HandleKey, Mark};
 use crate::limits::STORED_NAME_BYTES;
-use crate::lines::StoreReply;
 use crate::messages::{message_id, own_id};
 use crate::moves::{Copies, Origin};
 use crate::polling::Polls;
 use crate::retention::Jumps;
-use crate::store_bytes::Receipt;
+use crate::store_bytes::{Receipt, StoreReply};
 use crate::texts::{QueueKind, QueueName};
 use ask::{Ask, Cause, Outcome, StoreName, TableChange};
 use book::{size_of_text, Books, Entry, LeftOver, ProgramEntry, QueueEntry, Removal};

@@ -210,7 +210,8 @@ impl Names {
         let of_program = |(place, own): (&usize, &OfProgram)| {
             let mut names: Vec<_> = own.names.iter().collect();
             names.sort_unstable_by_key(|(name, _)| **name);
-            let names: Vec<_> = names.iter().map(|(name, own)| (name.text(), own.creations, own.is_there)).collect();
+            let names: Vec<_> =
+                names.iter().map(|(name, own)| (name.to_string(), own.creations, own.is_there)).collect();
             let mut waiting: Vec<_> = own.waiting.iter().chain(&own.waiting_books).collect();
             waiting.sort_unstable();
             format!("{place}: {names:?} {} {waiting:?}", own.gone)

@@ -11,7 +11,7 @@ use super::shards::Shards;
 use super::REMOVAL_PAUSE;
 use crate::clock::Moment;
 use crate::errors::SqsError;
-use crate::lines::StoreReply;
+use crate::store_bytes::StoreReply;
 
 /// A queue that has parts.
 #[derive(Debug, Default)]
@@ -186,7 +186,7 @@ impl Parts {
 mod tests {
     use super::*;
     use crate::queues::ask::PartsCause;
-    use crate::store_bytes::Receipt;
+    use crate::store_bytes::{Delivery, Receipt};
 
     fn freed(parts: &Parts) -> Vec<u64> {
         let mut freed = parts.take_those_freed();
@@ -279,11 +279,8 @@ mod tests {
     #[test]
     fn a_text_comes_back_from_its_parts() {
         let parts = Parts::default();
-        let given = ["one", "two"].map(|body| crate::lines::StoreMessage {
-            body: body.into(),
-            group: "parts".into(),
-            receipt: Receipt { incarnation: 1, sequence: 1, ordinal: 1 },
-        });
+        let receipt = Receipt { incarnation: 1, sequence: 1, ordinal: 1 };
+        let given = ["one", "two"].map(|body| Delivery { receipt, group: "parts".into(), body: body.into() });
         let read = parts.apply_reply(1, &PartsAsk::Read, StoreReply::Received(given.to_vec()), 0).unwrap();
         assert!(matches!(read, Outcome::Parts(text) if text == "onetwo"));
     }

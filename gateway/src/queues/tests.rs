@@ -12,11 +12,10 @@ use super::book::{Entry, QueueEntry};
 use super::State;
 use crate::attributes::{GivenAttributes, QueueAttributes};
 use crate::clock::Moment;
-use crate::lines::{self, StoreReply};
 use crate::messages::Envelope;
 use crate::retention::Jumps;
 use crate::seeded::check;
-use crate::store_bytes::Receipt;
+use crate::store_bytes::{Delivery, Receipt, StoreReply};
 use crate::texts::{DedupId, GroupId, QueueKind, QueueName};
 
 #[derive(Clone, Debug)]
@@ -57,14 +56,14 @@ impl List {
         self.messages[&sequence].sent + self.delay <= now
     }
 
-    fn hand(&mut self, size: usize, visibility: u32, now: Moment) -> Vec<lines::StoreMessage> {
+    fn hand(&mut self, size: usize, visibility: u32, now: Moment) -> Vec<Delivery> {
         let mut given = Vec::new();
         for sequence in self.in_turn(now).into_iter().take(size) {
             let message = self.messages.get_mut(&sequence).unwrap();
             message.count += 1;
             message.until = now + 1000 * u64::from(visibility);
             let receipt = Receipt { incarnation: 1, sequence, ordinal: message.count };
-            given.push(lines::StoreMessage { body: "b".into(), group: message.group.into(), receipt });
+            given.push(Delivery { receipt, group: message.group.into(), body: "b".into() });
         }
         given
     }
@@ -308,7 +307,7 @@ fn names_of_the_store_come_back() {
         (StoreName::of_book(7), "book7.fifo", None, None),
     ];
     for (name, text, parts, main) in names {
-        assert_eq!((name.text().as_str(), StoreName::parse(text)), (text, Some(name)));
+        assert_eq!((name.to_string().as_str(), StoreName::parse(text)), (text, Some(name)));
         assert_eq!((name.parts(), name.main()), (parts, main), "{text}");
     }
     for bad in [

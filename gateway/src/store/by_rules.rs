@@ -1,13 +1,12 @@
 //! A store by the rules of `docs/QUEUES.md`, and its bytes, for tests.
 
-use std::borrow::Cow;
 use std::collections::{BTreeMap, BTreeSet};
+use std::sync::Arc;
 
 use crate::clock::Moment;
-use crate::lines::{AskFields, AskKind, StoreMessage, StoreReply};
 use crate::queues::ask::StoreName;
 use crate::store_bytes::written::{append, chunk};
-use crate::store_bytes::{KeptHandings, Part, QueuePart, Receipt};
+use crate::store_bytes::{Delivery, KeptHandings, Part, QueuePart, Receipt, StoreAsk, StoreReply};
 
 const WINDOW: u64 = 300_000;
 
@@ -39,7 +38,7 @@ struct LivingQueue {
 #[derive(Clone)]
 struct Message {
     group: String,
-    body: String,
+    body: Arc<str>,
     handings: u64,
     handed: Moment,
     until: Moment,
@@ -51,18 +50,19 @@ impl StoreByRules {
         self.names.iter().filter(|(_, name)| name.queue.is_some()).map(|(name, _)| *name).collect()
     }
 
-    /// The reply to an ask of this moment.
-    pub fn reply(&mut self, fields: &AskFields<'_>, now: Moment) -> StoreReply {
+    /// The reply to an ask of this moment, by the bytes of it.
+    pub fn reply(&mut self, written: &[u8], now: Moment) -> StoreReply {
+        let (queue, ask) = StoreAsk::<&str>::read_whole(written).unwrap();
         (self.entries, self.last) = (self.entries + 1, now);
-        let name = self.names.entry(StoreName::parse(&fields.queue).unwrap()).or_default();
-        match (fields.kind, &mut name.queue) {
-            (AskKind::Create, _) => name.create(fields.visibility.unwrap_or(30), now),
+        let name = self.names.entry(StoreName::parse(queue).unwrap()).or_default();
+        match (ask, &mut name.queue) {
+            (StoreAsk::Create { timeout, .. }, _) => name.create(timeout, now),
             (_, None) => StoreReply::Refused(1),
-            (AskKind::Remove, _) => {
+            (StoreAsk::Remove, _) => {
                 (name.queue, name.removed) = (None, Some(now));
                 StoreReply::Removed
             }
-            (_, Some(queue)) => queue.reply(fields, now),
+            (ask, Some(queue)) => queue.reply(ask, now),
         }
     }
 
@@ -84,7 +84,7 @@ impl StoreByRules {
         if self.entries % 2 == 0 {
             names.reverse();
         }
-        names.into_iter().for_each(|(store, name)| name.write(&store.text(), &mut write));
+        names.into_iter().for_each(|(store, name)| name.write(&store.to_string(), &mut write));
         write(&Part::End);
         chunks
     }
@@ -124,31 +124,27 @@ impl Name {
     }
 }
 
-fn text(text: &Option<Cow<'_, str>>) -> String {
-    text.as_ref().unwrap().to_string()
-}
-
 impl LivingQueue {
-    fn reply(&mut self, fields: &AskFields<'_>, now: Moment) -> StoreReply {
-        match fields.kind {
-            AskKind::Send => self.send(fields, now),
-            AskKind::Receive => self.receive(fields, now),
-            AskKind::Delete => self.delete(fields.receipt.unwrap(), now),
-            _ => self.change(fields.receipt.unwrap(), fields.visibility.unwrap(), now),
+    fn reply(&mut self, ask: StoreAsk<&str>, now: Moment) -> StoreReply {
+        match ask {
+            StoreAsk::Send { group, dedup, body } => self.send(group, dedup.unwrap(), body, now),
+            StoreAsk::Receive { size, timeout } => self.receive(size as usize, timeout, now),
+            StoreAsk::Delete { receipt } => self.delete(receipt, now),
+            StoreAsk::Change { receipt, timeout } => self.change(receipt, timeout, now),
+            StoreAsk::Create { .. } | StoreAsk::Remove => unreachable!("its name replies to it"),
         }
     }
 
-    fn send(&mut self, fields: &AskFields<'_>, now: Moment) -> StoreReply {
+    fn send(&mut self, group: &str, id: &str, body: &str, now: Moment) -> StoreReply {
         (self.uses, self.last) = (self.uses + 1, now);
         self.accepted.retain(|(_, moment, _)| now < moment + WINDOW);
-        let id = text(&fields.dedup);
-        if let Some((_, _, first)) = self.accepted.iter().find(|(own, ..)| *own == id) {
+        if let Some((_, _, first)) = self.accepted.iter().find(|(own, ..)| own == id) {
             return StoreReply::Sent(*first);
         }
         self.sent += 1;
-        let (group, body) = (text(&fields.group), text(&fields.body));
-        self.messages.insert(self.sent, Message { group, body, handings: 0, handed: 0, until: 0 });
-        self.accepted.push((id, now, self.sent));
+        let message = Message { group: group.into(), body: body.into(), handings: 0, handed: 0, until: 0 };
+        self.messages.insert(self.sent, message);
+        self.accepted.push((id.into(), now, self.sent));
         StoreReply::Sent(self.sent)
     }
 
@@ -162,16 +158,15 @@ impl LivingQueue {
         open.concat()
     }
 
-    fn receive(&mut self, fields: &AskFields<'_>, now: Moment) -> StoreReply {
+    fn receive(&mut self, size: usize, timeout: Option<u32>, now: Moment) -> StoreReply {
         (self.uses, self.last) = (self.uses + 1, now);
-        let size = usize::from(fields.size.unwrap_or(1));
-        let until = now + 1000 * u64::from(fields.visibility.unwrap_or(self.timeout));
+        let until = now + 1000 * u64::from(timeout.unwrap_or(self.timeout));
         let next: Vec<_> = self.in_order(now).into_iter().take(size).collect();
         let hand = |sequence| {
             let message = self.messages.get_mut(&sequence).unwrap();
             (message.handings, message.handed, message.until) = (message.handings + 1, now, until);
             let receipt = Receipt { incarnation: self.incarnation, sequence, ordinal: message.handings };
-            StoreMessage { body: message.body.clone(), group: message.group.clone(), receipt }
+            Delivery { receipt, group: message.group.clone(), body: message.body.clone() }
         };
         StoreReply::Received(next.into_iter().map(hand).collect())
     }

@@ -11,7 +11,6 @@ use super::by_rules::StoreByRules;
 use crate::attributes::GivenAttributes;
 use crate::clock::Moment;
 use crate::errors::SqsError;
-use crate::lines::{AskFields, StoreReply};
 use crate::messages::{parts_of, Envelope, EnvelopeHead};
 use crate::move_tasks::{MoveTask, Status};
 use crate::moves::{CopyId, Origin};
@@ -19,7 +18,7 @@ use crate::queues::ask::{Ask, Cause, Changer, Handed, Outcome, PartsAsk, PartsCa
 use crate::queues::book::{Entry, ProgramEntry, QueueEntry};
 use crate::queues::shards::Shards;
 use crate::queues::{Queue, Queues};
-use crate::store_bytes::Receipt;
+use crate::store_bytes::{Receipt, StoreReply};
 use crate::texts::{AttemptId, DedupId, GroupId, QueueKind, QueueName};
 
 const NAMES: [&str; 4] = ["a", "b.fifo", "c", "d.fifo"];
@@ -206,7 +205,7 @@ impl Living {
             Ask::Say { book: number, .. } | Ask::Parts { number, .. } => self.shards.place_of_number(*number),
             _ => place,
         };
-        let reply = self.stores[place].reply(&AskFields::of(own, &ask), self.now);
+        let reply = self.stores[place].reply(&ask.written(own), self.now);
         let refused = matches!(reply, StoreReply::Refused(_));
         let outcome = self.queues.apply_reply(place, queue, &ask, reply, self.now)?;
         if !refused {

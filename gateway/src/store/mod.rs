@@ -20,7 +20,6 @@ use uuid::Uuid;
 use crate::budget::Share;
 use crate::clock::{Clock, Moment};
 use crate::errors::SqsError;
-use crate::frames;
 use crate::handles::{HandleKey, Mark};
 use crate::queues::ask::{Ask, Cause, Handed, Outcome, PartsAsk, Reach, StoreName, TableChange};
 use crate::queues::book::Entry;
@@ -551,7 +550,7 @@ impl Held {
 fn runs_of(copies: Vec<Copy>) -> Vec<Vec<Copy>> {
     let (mut runs, mut last): (Vec<Vec<Copy>>, usize) = (Vec::new(), usize::MAX);
     for copy in copies {
-        let length = frames::length_of(&copy.ask);
+        let length = copy.ask.length_of_texts();
         if length < last {
             runs.push(Vec::new());
         }

@@ -10,8 +10,8 @@ use thiserror::Error;
 use tokio::io::{AsyncReadExt, AsyncWriteExt};
 
 use crate::cq::{Cq, CqError, KeptFile};
-use crate::frames::BadFrame;
 use crate::queues::ImageError;
+use crate::store_bytes::BadFrame;
 
 const PIECE: usize = 256 * 1024;
 

@@ -1,6 +1,87 @@
-//! Writes stores as bytes, for tests.
+//! Writes what stores answer, and stores, as bytes, for tests.
 
-use super::{Part, VERSION};
+use hobbychair_cluster::parts::{Parts, VERSION};
+
+use super::replies::{ANSWER, CHANGED, COUNTS, CREATED, DELETED, RECEIVED, REFUSED, REMOVED, SENT};
+use super::{Delivery, KeptHandings, Part, Receipt, StoreAnswer, StoreReply};
+
+impl<R> StoreReply<R> {
+    /// Appends its bytes, by what writes the messages in it.
+    fn append_by(&self, out: &mut Vec<u8>, received: impl FnOnce(&mut Vec<u8>, &R)) {
+        out.push(self.kind());
+        match self {
+            StoreReply::Created(number) | StoreReply::Sent(number) => out.number64(*number),
+            StoreReply::Removed | StoreReply::Changed => {}
+            StoreReply::Received(given) => received(out, given),
+            StoreReply::Deleted(removed) => out.flag(*removed),
+            StoreReply::Counts { visible, in_flight } => {
+                [*visible, *in_flight].into_iter().for_each(|count| out.number64(count));
+            }
+            StoreReply::Refused(refusal) => out.number32(*refusal),
+        }
+    }
+
+    fn kind(&self) -> u8 {
+        match self {
+            StoreReply::Created(_) => CREATED,
+            StoreReply::Removed => REMOVED,
+            StoreReply::Sent(_) => SENT,
+            StoreReply::Received(_) => RECEIVED,
+            StoreReply::Deleted(_) => DELETED,
+            StoreReply::Changed => CHANGED,
+            StoreReply::Counts { .. } => COUNTS,
+            StoreReply::Refused(_) => REFUSED,
+        }
+    }
+}
+
+fn append_deliveries(out: &mut Vec<u8>, deliveries: &[Delivery]) {
+    out.number64(deliveries.len() as u64);
+    for Delivery { receipt, group, body } in deliveries {
+        receipt.append(out);
+        [group.as_str(), body].into_iter().for_each(|text| out.run(text.as_bytes()));
+    }
+}
+
+impl StoreAnswer {
+    /// The bytes of this message.
+    pub fn written(&self) -> Vec<u8> {
+        let mut out = vec![VERSION, ANSWER];
+        out.number32(self.client);
+        out.number64(self.number);
+        out.flag(self.is_of_query);
+        out.number64(self.length);
+        self.reply.append_by(&mut out, |out, deliveries| append_deliveries(out, deliveries));
+        out
+    }
+}
+
+impl KeptHandings<'_> {
+    /// The kept reply that hands this out, or one that hands nothing out.
+    fn append(self, out: &mut Vec<u8>) {
+        let reply = if self.0.is_empty() { StoreReply::Changed } else { StoreReply::Received(self) };
+        reply.append_by(out, |out, handed| {
+            out.number64(handed.receipts().len() as u64);
+            out.extend(handed.0);
+        });
+    }
+
+    /// What handed out these messages, of one body that no other reply mentions.
+    pub fn written<'b>(receipts: &[Receipt], bytes: &'b mut Vec<u8>) -> KeptHandings<'b> {
+        for (place, receipt) in receipts.iter().enumerate() {
+            receipt.append(bytes);
+            bytes.run(b"g");
+            if place == 0 {
+                bytes.push(0);
+                bytes.run(b"body");
+            } else {
+                bytes.push(1);
+                bytes.number64(0);
+            }
+        }
+        KeptHandings(bytes)
+    }
+}
 
 /// A chunk that has nothing yet.
 pub fn chunk() -> Vec<u8> {
@@ -9,48 +90,41 @@ pub fn chunk() -> Vec<u8> {
 
 /// The bytes of a part. A client has the shortest reply, or one that hands out what it says.
 pub fn append(out: &mut Vec<u8>, part: &Part<'_>) {
-    fn number(out: &mut Vec<u8>, number: u64) {
-        out.extend(number.to_le_bytes());
-    }
-    fn text(out: &mut Vec<u8>, text: &str) {
-        out.extend((text.len() as u32).to_le_bytes());
-        out.extend(text.as_bytes());
-    }
     match part {
         Part::Start { entries, last } => {
             out.push(0);
-            [*entries, *last].into_iter().for_each(|one| number(out, one));
+            [*entries, *last].into_iter().for_each(|one| out.number64(one));
         }
-        Part::Client { client, number: largest, handed } => {
+        Part::Client { client, number, handed } => {
             out.push(1);
-            out.extend(client.to_le_bytes());
-            number(out, *largest);
+            out.number32(*client);
+            out.number64(*number);
             handed.append(out);
         }
         Part::Name { name, creations, removed, queue } => {
             out.push(2);
-            text(out, name);
-            number(out, *creations);
-            out.push(removed.is_some().into());
-            removed.iter().for_each(|moment| number(out, *moment));
-            out.push(queue.is_some().into());
+            out.run(name.as_bytes());
+            out.number64(*creations);
+            out.flag(removed.is_some());
+            removed.iter().for_each(|moment| out.number64(*moment));
+            out.flag(queue.is_some());
             if let Some(queue) = queue {
-                number(out, queue.incarnation);
-                out.extend(queue.timeout.to_le_bytes());
-                out.push(queue.makes_ids.into());
-                [queue.sent, queue.uses, queue.last].into_iter().for_each(|one| number(out, one));
+                out.number64(queue.incarnation);
+                out.number32(queue.timeout);
+                out.flag(queue.makes_ids);
+                [queue.sent, queue.uses, queue.last].into_iter().for_each(|one| out.number64(one));
             }
         }
         Part::Message { sequence, group, body, handings, handed, until } => {
             out.push(3);
-            number(out, *sequence);
-            [group, body].into_iter().for_each(|one| text(out, one));
-            [*handings, *handed, *until].into_iter().for_each(|one| number(out, one));
+            out.number64(*sequence);
+            [group, body].into_iter().for_each(|one| out.run(one.as_bytes()));
+            [*handings, *handed, *until].into_iter().for_each(|one| out.number64(one));
         }
         Part::Accepted { id, moment, sequence } => {
             out.push(4);
-            text(out, id);
-            [*moment, *sequence].into_iter().for_each(|one| number(out, one));
+            out.run(id.as_bytes());
+            [*moment, *sequence].into_iter().for_each(|one| out.number64(one));
         }
         Part::End => out.push(5),
     }

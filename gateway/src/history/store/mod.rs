@@ -12,8 +12,8 @@ use serde_json::{Map, Value};
 
 use super::finding::{Finding, Judged, Rule};
 use super::line::{bare, Line, Members};
-use super::stored::{Ask, Request, Told, NO_QUEUE, OTHER_ATTRIBUTES, REMOVED_LATELY, STALE};
-use crate::lines::StoreReply;
+use super::stored::{told, Told, NO_QUEUE, OTHER_ATTRIBUTES, REMOVED_LATELY, STALE};
+use crate::store_bytes::{StoreAsk, StoreReply, StoreRequest};
 pub use loading::Loading;
 use queue::Queue;
 
@@ -54,10 +54,10 @@ struct Name {
 impl Store {
     /// What the rules say of the answer in a line, which is to this request. Behind one that they don't allow this is of no use any
     /// more.
-    pub fn judge(&mut self, line: &Line, request: &Request) -> Result<Judged, Finding> {
+    pub fn judge(&mut self, line: &Line, request: &StoreRequest) -> Result<Judged, Finding> {
         let Some((Reply { reply, incarnation }, rule)) = self.reply(request, line.at) else { return Ok(Judged::Not) };
         // It replies to requests alone, with receipts of its own.
-        let wanted = request.told(incarnation, &reply).unwrap_or_else(|| Ok(Map::new()));
+        let wanted = told(request, incarnation, &reply).unwrap_or_else(|| Ok(Map::new()));
         let told = line.told().cloned();
         if told.as_ref().map_err(|code| bare(code)) == wanted.as_ref().map_err(|code| bare(code)) {
             return Ok(Judged::Allowed);
@@ -67,7 +67,7 @@ impl Store {
     }
 
     /// The reply to a request at this moment, and the rule that says so. None: it repeats one whose reply isn't known.
-    fn reply(&mut self, request: &Request, now: u64) -> Option<(Reply, Rule)> {
+    fn reply(&mut self, request: &StoreRequest, now: u64) -> Option<(Reply, Rule)> {
         match self.clients.get(&request.client) {
             Some(last) if last.number == request.number => Some((last.reply.clone()?, Rule::Repeats)),
             Some(last) if last.number > request.number => {
@@ -82,7 +82,7 @@ impl Store {
     }
 
     /// What a fresh request does and is answered.
-    fn effect(&mut self, request: &Request, now: u64) -> (Reply, Rule) {
+    fn effect(&mut self, request: &StoreRequest, now: u64) -> (Reply, Rule) {
         let name = self.names.entry(request.queue.clone()).or_default();
         let incarnation = name.queue.as_ref().map_or(0, |queue| queue.incarnation);
         let (reply, rule) = name.effect(&request.ask, now);
@@ -91,20 +91,22 @@ impl Store {
 }
 
 impl Name {
-    fn effect(&mut self, ask: &Ask, now: u64) -> (StoreReply, Rule) {
+    fn effect(&mut self, ask: &StoreAsk, now: u64) -> (StoreReply, Rule) {
         match (ask, &mut self.queue) {
-            (Ask::Create { timeout, makes_ids }, _) => (self.create(*timeout, *makes_ids, now), Rule::Create),
+            (StoreAsk::Create { timeout, makes_ids }, _) => (self.create(*timeout, *makes_ids, now), Rule::Create),
             (_, None) => (StoreReply::Refused(NO_QUEUE), Rule::Remove),
-            (Ask::Remove, _) => {
+            (StoreAsk::Remove, _) => {
                 (self.queue, self.removed) = (None, Some(now));
                 (StoreReply::Removed, Rule::Remove)
             }
-            (Ask::Send { group, dedup, body }, Some(queue)) => {
+            (StoreAsk::Send { group, dedup, body }, Some(queue)) => {
                 (queue.send(group, dedup.as_deref(), body, now), Rule::Send)
             }
-            (Ask::Receive { size, timeout }, Some(queue)) => (queue.receive(*size, *timeout, now), Rule::Receive),
-            (Ask::Delete { receipt }, Some(queue)) => (queue.delete(*receipt, now), Rule::Delete),
-            (Ask::Change { receipt, timeout }, Some(queue)) => (queue.change(*receipt, *timeout, now), Rule::Change),
+            (StoreAsk::Receive { size, timeout }, Some(queue)) => (queue.receive(*size, *timeout, now), Rule::Receive),
+            (StoreAsk::Delete { receipt }, Some(queue)) => (queue.delete(*receipt, now), Rule::Delete),
+            (StoreAsk::Change { receipt, timeout }, Some(queue)) => {
+                (queue.change(*receipt, *timeout, now), Rule::Change)
+            }
         }
     }
 

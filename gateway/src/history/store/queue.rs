@@ -2,10 +2,10 @@
 
 use std::collections::{BTreeMap, BTreeSet, HashMap, VecDeque};
 use std::rc::Rc;
+use std::sync::Arc;
 
 use crate::history::stored::{BAD_RECEIPT, BEYOND_LIMIT, NOT_IN_FLIGHT, NO_ID};
-use crate::lines::{StoreMessage, StoreReply};
-use crate::store_bytes::{QueuePart, Receipt};
+use crate::store_bytes::{Delivery, QueuePart, Receipt, StoreReply};
 use crate::texts::DedupId;
 
 /// A send with the id of an earlier one adds nothing for so long, in milliseconds.
@@ -36,7 +36,7 @@ pub struct Queue {
 
 struct Message {
     group: Rc<str>,
-    body: String,
+    body: Arc<str>,
     /// How often it was handed out, when last, and until when it is hidden.
     handings: u64,
     handed: u64,
@@ -143,7 +143,7 @@ impl Queue {
             (message.handed, message.until) = (now, until);
             let receipt = Receipt { incarnation: self.incarnation, sequence, ordinal: message.handings };
             let group = message.group.clone();
-            handed.push(StoreMessage { body: message.body.clone(), group: group.to_string(), receipt });
+            handed.push(Delivery { receipt, group: group.to_string(), body: message.body.clone() });
             self.place(&group, now);
         }
         StoreReply::Received(handed)

@@ -5,8 +5,7 @@ use serde_json::{json, Value};
 
 use super::super::{check, Told};
 use super::*;
-use crate::history::stored::line_of_chunk;
-use crate::lines::{AskFields, AskKind};
+use crate::history::stored::{line_of_chunk, line_of_request, request_of};
 use crate::queues::ask::StoreName;
 use crate::seeded;
 use crate::store::by_rules::StoreByRules;
@@ -286,7 +285,7 @@ fn a_line_that_is_none_of_a_store_is_told() {
 }
 
 /// What is asked next: of which of two queues, what, and how many milliseconds later.
-type Step = (u64, Ask, u64);
+type Step = (u64, StoreAsk, u64);
 
 fn steps() -> impl Strategy<Value = Vec<Step>> {
     let receipt = (1u64..6, 1u64..4).prop_map(|(sequence, ordinal)| Receipt { incarnation: 1, sequence, ordinal });
@@ -294,46 +293,15 @@ fn steps() -> impl Strategy<Value = Vec<Step>> {
     let text = |texts: &'static [&'static str]| proptest::sample::select(texts).prop_map(String::from);
     let send = (text(&["g", "h", "i"]), text(&["1", "2", "3", "4", "5"]));
     let ask = prop_oneof![
-        1 => timeout.clone().prop_map(|timeout| Ask::Create { timeout: timeout.min(30), makes_ids: false }),
-        1 => Just(Ask::Remove),
-        6 => send.prop_map(|(group, id)| Ask::Send { body: format!("{id} of {group}"), group, dedup: Some(id) }),
-        6 => (1u32..5, proptest::option::of(timeout.clone())).prop_map(|(size, timeout)| Ask::Receive { size, timeout }),
-        4 => receipt.clone().prop_map(|receipt| Ask::Delete { receipt }),
-        4 => (receipt, timeout).prop_map(|(receipt, timeout)| Ask::Change { receipt, timeout }),
+        1 => timeout.clone().prop_map(|timeout| StoreAsk::Create { timeout: timeout.min(30), makes_ids: false }),
+        1 => Just(StoreAsk::Remove),
+        6 => send.prop_map(|(group, id)| StoreAsk::Send { body: format!("{id} of {group}"), group, dedup: Some(id) }),
+        6 => (1u32..5, proptest::option::of(timeout.clone())).prop_map(|(size, timeout)| StoreAsk::Receive { size, timeout }),
+        4 => receipt.clone().prop_map(|receipt| StoreAsk::Delete { receipt }),
+        4 => (receipt, timeout).prop_map(|(receipt, timeout)| StoreAsk::Change { receipt, timeout }),
     ];
     let step = prop_oneof![8 => 0u64..2_000, 2 => Just(30_000u64), 1 => Just(60_000), 1 => 299_000u64..301_000];
     proptest::collection::vec((1u64..3, ask, step), 1..60)
-}
-
-/// The parts of an ask, for the store by the rules.
-fn fields(queue: &str, ask: &Ask) -> AskFields<'static> {
-    let plain = |kind| AskFields {
-        kind,
-        queue: queue.to_string().into(),
-        group: None,
-        dedup: None,
-        body: None,
-        size: None,
-        visibility: None,
-        receipt: None,
-    };
-    match ask.clone() {
-        Ask::Create { timeout, .. } => AskFields { visibility: Some(timeout), ..plain(AskKind::Create) },
-        Ask::Remove => plain(AskKind::Remove),
-        Ask::Send { group, dedup, body } => AskFields {
-            group: Some(group.into()),
-            dedup: dedup.map(Into::into),
-            body: Some(body.into()),
-            ..plain(AskKind::Send)
-        },
-        Ask::Receive { size, timeout } => {
-            AskFields { size: Some(size as u8), visibility: timeout, ..plain(AskKind::Receive) }
-        }
-        Ask::Delete { receipt } => AskFields { receipt: Some(receipt), ..plain(AskKind::Delete) },
-        Ask::Change { receipt, timeout } => {
-            AskFields { receipt: Some(receipt), visibility: Some(timeout), ..plain(AskKind::Change) }
-        }
-    }
 }
 
 /// A store that is made of another one's bytes.
@@ -350,26 +318,25 @@ fn replies_are_those_of_another_store_by_the_rules_also_where_one_begins_with_it
         let (mut store, mut other, mut now) = (Store::default(), StoreByRules::default(), 1_000);
         let mut removed = std::collections::HashSet::new();
         for (place, (queue, ask, step)) in steps.into_iter().enumerate() {
-            let (name, number) = (StoreName(queue).text(), place as u64);
-            if removed.contains(&queue) && matches!(ask, Ask::Create { .. }) {
+            let (name, number) = (StoreName(queue).to_string(), place as u64);
+            if removed.contains(&queue) && matches!(ask, StoreAsk::Create { .. }) {
                 continue;
             }
-            if ask == Ask::Remove {
+            if ask == StoreAsk::Remove {
                 removed.insert(queue);
             }
             now += step;
-            let request = Request { client: 1, number: number + 1, queue: name, ask };
+            let request = StoreRequest { client: 1, number: number + 1, queue: name, ask };
             if place == cut {
                 store = loaded(&other, number);
-                let repeat = Request { number, ..request.clone() };
+                let repeat = StoreRequest { number, ..request.clone() };
                 prop_assert!(store.reply(&repeat, now).is_none(), "what it was answered isn't known");
             }
-            let expected = other.reply(&fields(&request.queue, &request.ask), now);
+            let expected = other.reply(&request.ask.written(&request.queue), now);
             let (Reply { reply, .. }, _) = store.reply(&request, now).unwrap();
             prop_assert_eq!(&reply, &expected, "{:?} at {}", request, now);
-            let told = request.told(1, &reply).unwrap();
-            let line = request.line(1, now, told);
-            prop_assert_eq!(Request::of(&line, line.store.unwrap()), Ok(request));
+            let line = line_of_request(&request, 1, now, told(&request, 1, &reply).unwrap());
+            prop_assert_eq!(request_of(&line, line.store.unwrap()), Ok(request));
         }
         Ok(())
     });
@@ -377,13 +344,11 @@ fn replies_are_those_of_another_store_by_the_rules_also_where_one_begins_with_it
 
 #[test]
 fn a_history_may_begin_with_a_store_which_is_not_judged() {
-    let (mut other, name) = (StoreByRules::default(), StoreName(1).text());
-    other.reply(&fields(&name, &Ask::Create { timeout: 30, makes_ids: false }), 500);
-    for id in ["a", "b"] {
-        let send = Ask::Send { group: "g".into(), dedup: Some(id.into()), body: id.into() };
-        other.reply(&fields(&name, &send), 600);
-    }
-    other.reply(&fields(&name, &Ask::Receive { size: 1, timeout: None }), 700);
+    let mut other = StoreByRules::default();
+    let mut ask = |ask: StoreAsk<&str>, now| drop(other.reply(&ask.written(StoreName(1)), now));
+    ask(StoreAsk::Create { timeout: 30, makes_ids: false }, 500);
+    ["a", "b"].into_iter().for_each(|id| ask(StoreAsk::Send { group: "g", dedup: Some(id), body: id }, 600));
+    ask(StoreAsk::Receive { size: 1, timeout: None }, 700);
     let begin = || {
         let mut history = History { at: 700, ..History::default() };
         let chunks = other.bytes(2, 3);

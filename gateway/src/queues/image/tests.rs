@@ -100,11 +100,12 @@ fn given_by(request: (u32, u64), ordinal: u64, until: Moment) -> Option<Vec<Rece
     let asked = AttemptRequest { mark: 8, id: id.clone(), moment: 900, client, number };
     let program = ProgramEntry::new(0, 1, uuid::Uuid::nil());
     let entries = [Entry::Program(program), Entry::Queue(entry), Entry::Asked(asked)];
+    let receipts = [(1, 1), (2, ordinal)].map(|(sequence, ordinal)| Receipt { incarnation: 1, sequence, ordinal });
     let (group, mut bytes, mut handed) = ("g", chunk(), Vec::new());
     let queue = |sent| Some(QueuePart { incarnation: 1, timeout: 30, makes_ids: false, sent, uses: 9, last: 1000 });
     let mut write = |part: &Part<'_>| append(&mut bytes, part);
     write(&Part::Start { entries: 9, last: 1000 });
-    write(&Part::Client { client: 3, number: 7, handed: KeptHandings::written(&[(1, 1), (2, ordinal)], &mut handed) });
+    write(&Part::Client { client: 3, number: 7, handed: KeptHandings::written(&receipts, &mut handed) });
     write(&Part::Name { name: "book1.fifo", creations: 1, removed: None, queue: queue(3) });
     for (place, entry) in entries.iter().enumerate() {
         let (sequence, body) = (place as u64 + 1, &entry.text().unwrap());

@@ -28,12 +28,11 @@ use crate::attributes::QueueAttributes;
 use crate::clock::Moment;
 use crate::errors::SqsError;
 use crate::limits::{ID_BYTES, MESSAGE_BYTES, QUEUE_BYTES, STORED_ID_BYTES, STORED_MESSAGE_BYTES, STORED_QUEUE_BYTES};
-use crate::lines::{StoreMessage, StoreReply};
 use crate::messages::{has_parts, Envelope, EnvelopeHead};
 use crate::move_tasks::{MoveTask, Status};
 use crate::redrive::RedrivePolicy;
 use crate::retention::Jumps;
-use crate::store_bytes::Receipt;
+use crate::store_bytes::{Delivery, Receipt, StoreReply};
 use crate::texts::{AttemptId, GroupId, QueueKind};
 use attempts::{Attempt, Attempts};
 use delayed::{Calls, DueMessages, First};
@@ -288,7 +287,7 @@ impl State {
 
     fn received(
         &mut self,
-        given: Vec<StoreMessage>,
+        given: Vec<Delivery>,
         attempt: Option<&AttemptId>,
         receiving: &Receiving<'_>,
     ) -> Result<Applied, SqsError> {
@@ -341,7 +340,7 @@ impl State {
         self.attempts.ask(request);
     }
 
-    fn hand(&mut self, given: StoreMessage, receiving: &Receiving<'_>) -> Result<(Handed, Option<Fate>), SqsError> {
+    fn hand(&mut self, given: Delivery, receiving: &Receiving<'_>) -> Result<(Handed, Option<Fate>), SqsError> {
         let (moment, receipt) = (receiving.moment, given.receipt);
         if receipt.incarnation != self.incarnation {
             return Err(misfit());
@@ -358,7 +357,7 @@ impl State {
         self.attempts.forget_with(receipt.sequence);
         message.ordinal = receipt.ordinal;
         message.last = Some(Handing { moment, first, touched: false });
-        let envelope = message.envelope.clone().unwrap_or_else(|| given.body.into());
+        let envelope = message.envelope.clone().unwrap_or(given.body);
         Ok((Handed { receipt, moment, first, group: given.group, envelope }, fate))
     }
 

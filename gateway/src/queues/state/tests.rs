@@ -87,7 +87,7 @@ fn what_is_deleted_counts_by_its_id_until_that_is_too_old() {
 fn receive(state: &mut State, ordinal: u64, moment: Moment) -> (Vec<Handed>, Vec<(Handed, Fate)>) {
     let ask = Ask::Receive { size: 1, visibility: 5, attempt: None, most: Some(2), reach: Reach::All };
     let (group, receipt) = ("g".into(), handing(1, ordinal));
-    let given = crate::lines::StoreMessage { group, receipt, body: "b".into() };
+    let given = Delivery { receipt, group, body: "b".into() };
     let applied = state.apply_reply(&ask, StoreReply::Received(vec![given]), moment, &Jumps::default()).unwrap();
     match applied.outcome {
         Outcome::Received { handed, set_aside, .. } => (handed, set_aside),
@@ -197,7 +197,7 @@ fn a_delayed_message_is_due_until_it_has_a_copy() {
 }
 
 fn given(places: std::ops::RangeInclusive<u64>) -> StoreReply {
-    let given = |place| crate::lines::StoreMessage { group: "g".into(), receipt: handing(place, 1), body: "b".into() };
+    let given = |place| Delivery { receipt: handing(place, 1), group: "g".into(), body: "b".into() };
     StoreReply::Received(places.map(given).collect())
 }
 

@@ -6,9 +6,9 @@ use super::chain::Chain;
 use super::entries::{Entry, Open, OpenAsk};
 use super::{Ended, Task};
 use crate::errors::SqsError;
-use crate::lines::StoreReply;
 use crate::queues::ask::{Ask, Outcome};
 use crate::store::{Answer, AnswerSender};
+use crate::store_bytes::StoreReply;
 
 impl Task {
     pub(super) fn read_answers(&mut self) -> Result<(), Ended> {
@@ -62,19 +62,15 @@ impl Task {
                 let answer = self.apply(&asked, reply);
                 let is_done = answer.is_ok();
                 self.finish(answer, sender);
-                self.go_on_with(&asked, is_done)
+                self.go_on_with(&asked, is_done);
             }
             Entry::Moment { .. } => {
                 self.moment_answered();
                 if sender.is_some() {
                     self.finish(Ok(Outcome::Done), sender);
                 }
-                Ok(())
             }
-            Entry::Probe { .. } => {
-                self.ends = 0;
-                Ok(())
-            }
+            Entry::Probe { .. } => self.ends = 0,
             Entry::Count { .. } => {
                 self.ends = 0;
                 let answer = match reply {
@@ -83,15 +79,17 @@ impl Task {
                     _ => Err(SqsError::InternalFailure("The store gave no counts.".into())),
                 };
                 self.finish(answer, sender);
-                Ok(())
             }
-            Entry::Ready(_) => Ok(()),
+            Entry::Ready(_) => {}
         }
+        Ok(())
     }
 
     /// Goes on with the move of which this was a copy, if it was one.
-    pub(super) fn go_on_with(&mut self, asked: &OpenAsk, is_done: bool) -> Result<(), Ended> {
-        asked.original.map_or(Ok(()), |original| self.copy_answered(original, is_done))
+    pub(super) fn go_on_with(&mut self, asked: &OpenAsk, is_done: bool) {
+        if let Some(original) = asked.original {
+            self.copy_answered(original, is_done);
+        }
     }
 
     /// Puts what counts at its answer into a receive: which messages are dead letters. So policies and targets change

@@ -31,10 +31,9 @@ use super::{AnswerSender, Answers, Hold, Holds, Job, Operation, Store};
 use crate::clock::{Clock, Moment};
 use crate::cq::{Cq, CqError, KeptFile, Making};
 use crate::errors::SqsError;
-use crate::frames::BadFrame;
 use crate::queues::shards::{Shard, Shards};
 use crate::queues::{Queue, Queues};
-use crate::store_bytes::{Part, StoreReader};
+use crate::store_bytes::{BadFrame, Part, StoreReader};
 use chain::Chain;
 use clients::{Clients, CLIENTS};
 use entries::{Entry, Open, OpenAsk, Pending};
@@ -399,13 +398,13 @@ impl Task {
         self.out.clear();
         self.waits_for_answer = false;
         let is_done = |asked: &OpenAsk| numbers.get(&asked.client) == Some(&asked.number);
-        self.ask_all_again(is_done)?;
+        self.ask_all_again(is_done);
         tracing::warn!("cq was started again, and is where its journal is");
         Ok(())
     }
 
     /// Asks what is open once more, in its order, as far as that isn't given up.
-    fn ask_all_again(&mut self, is_done: impl Fn(&OpenAsk) -> bool) -> Result<(), Ended> {
+    fn ask_all_again(&mut self, is_done: impl Fn(&OpenAsk) -> bool) {
         let mut given_up = None;
         let mut copies_given_up = Vec::new();
         for open in std::mem::take(&mut self.open) {
@@ -421,13 +420,12 @@ impl Task {
             self.open.push_back(Open { entry, sender: open.sender });
         }
         for original in copies_given_up {
-            self.copy_answered(original, false)?;
+            self.copy_answered(original, false);
         }
         if let Some(queue) = given_up {
             let entry = self.probe(queue);
             self.open.push_back(Open { entry, sender: None });
         }
-        Ok(())
     }
 
     /// Asks once more, under the same number. What the program has done isn't given up: it has its kept reply.

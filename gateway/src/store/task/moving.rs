@@ -8,12 +8,10 @@ use std::sync::Arc;
 use super::clients::CLIENTS;
 use super::entries::{Entry, Open, OpenAsk, StartOutcome};
 use super::starting::stamped;
-use super::{Ended, Task};
+use super::Task;
 use crate::clock::Moment;
 use crate::errors::SqsError;
-use crate::frames;
-use crate::lines::AskFields;
-use crate::queues::ask::Ask;
+use crate::queues::ask::{Ask, StoreName};
 use crate::queues::Queue;
 use crate::store::{AnswerSender, Copy, Operation};
 
@@ -35,36 +33,31 @@ impl Task {
         target: Arc<Queue>,
         copies: Vec<Copy>,
         sender: &mut Option<AnswerSender>,
-    ) -> Result<StartOutcome, Ended> {
+    ) -> StartOutcome {
         if copies.len() > self.clients.count() {
-            return Ok(StartOutcome::WaitsForAnswer(source, Operation::Move { target, copies }));
+            return StartOutcome::WaitsForAnswer(source, Operation::Move { target, copies });
         }
         let (store, removed) = {
             let state = target.state();
             (state.entry.store, state.removed)
         };
         if removed || copies.is_empty() {
-            return Ok(StartOutcome::ready(Err(SqsError::QueueDoesNotExist)));
+            return StartOutcome::ready(Err(SqsError::QueueDoesNotExist));
         }
         let moment = self.clock.now();
-        let mut asked = Vec::with_capacity(copies.len());
-        let copies: Vec<_> =
-            copies.into_iter().map(|copy| Copy { ask: stamped(copy.ask, &target, moment), ..copy }).collect();
-        for copy in &copies {
-            asked.push(frames::ask(&AskFields::of(store, &copy.ask))?);
-        }
         self.moving = Some(Moving { source, left: copies.len(), copied: Vec::new(), sender: sender.take() });
-        for (copy, written) in copies.into_iter().zip(asked) {
-            self.begin(target.clone(), copy.ask, written, moment, Some(copy.sequence));
+        for Copy { sequence, ask } in copies {
+            let ask = stamped(ask, &target, moment);
+            self.begin(target.clone(), store, ask, moment, Some(sequence));
         }
-        Ok(StartOutcome::Begun)
+        StartOutcome::Begun
     }
 
     /// Asks the program for a copy, or for the deletion of an original.
-    fn begin(&mut self, queue: Arc<Queue>, ask: Ask, written: Vec<u8>, moment: Moment, original: Option<u64>) {
+    fn begin(&mut self, queue: Arc<Queue>, store: StoreName, ask: Ask, moment: Moment, original: Option<u64>) {
         // There are as many free clients as copies, and a copy that is answered frees its own.
         let client = self.clients.take(false).unwrap_or(CLIENTS);
-        let number = self.next_number();
+        let (number, written) = (self.next_number(), ask.written(store));
         let asked =
             OpenAsk { queue, ask, written, moment, client, number, weight: 0, ends: 0, is_done: false, original };
         self.write(&asked);
@@ -72,20 +65,19 @@ impl Task {
     }
 
     /// A copy was answered, or given up. Behind the last one the originals go.
-    pub(super) fn copy_answered(&mut self, original: u64, is_there: bool) -> Result<(), Ended> {
-        let Some(moving) = &mut self.moving else { return Ok(()) };
+    pub(super) fn copy_answered(&mut self, original: u64, is_there: bool) {
+        let Some(moving) = &mut self.moving else { return };
         moving.left -= 1;
         if is_there {
             moving.copied.push(original);
         }
         if moving.left == 0 {
-            self.delete_originals()?;
+            self.delete_originals();
         }
-        Ok(())
     }
 
-    fn delete_originals(&mut self) -> Result<(), Ended> {
-        let Some(Moving { source, copied, sender, .. }) = self.moving.take() else { return Ok(()) };
+    fn delete_originals(&mut self) {
+        let Some(Moving { source, copied, sender, .. }) = self.moving.take() else { return };
         let moment = self.clock.now();
         let store = source.state().entry.store;
         let mut is_begun = false;
@@ -93,8 +85,7 @@ impl Task {
             let receipt = source.state().last_receipt_of(original);
             let Some(receipt) = receipt else { continue };
             let ask = Ask::Delete { receipt, by_client: false };
-            let written = frames::ask(&AskFields::of(store, &ask))?;
-            self.begin(source.clone(), ask, written, moment, None);
+            self.begin(source.clone(), store, ask, moment, None);
             is_begun = true;
         }
         match self.open.back_mut().filter(|_| is_begun) {
@@ -102,6 +93,5 @@ impl Task {
             // Behind copies that were given up, and are to be told yet.
             None => self.open.push_back(Open { entry: Entry::Ready(None), sender }),
         }
-        Ok(())
     }
 }

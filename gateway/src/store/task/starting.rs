@@ -2,20 +2,22 @@
 
 use std::sync::Arc;
 
+use super::clients::COUNTER;
 use super::entries::{Entry, Open, OpenAsk, Pending, StartOutcome};
 use super::room::{adds, refusal_for_room};
 use super::{chain, Ended, Task, PIECE};
 use crate::clock::Moment;
 use crate::errors::SqsError;
-use crate::frames;
 use crate::limits::{GONE_NAME_BYTES, STORED_NAME_BYTES};
-use crate::lines::AskFields;
 use crate::queues::ask::{Ask, Cause, Outcome, StoreName, TableChange};
 use crate::queues::book::{self, AttemptRequest};
 use crate::queues::Queue;
 use crate::store::Operation;
-use crate::store_bytes::Receipt;
+use crate::store_bytes::{append_query, append_request, Receipt, StoreAsk};
 use crate::texts::{DedupId, QueueKind};
+
+/// No queue of the store has this name: theirs have numbers. A receive of it does nothing but move the store's moment on.
+const NO_QUEUE: &str = "none.fifo";
 
 impl Task {
     /// Starts the operations that wait, as long as there are free clients.
@@ -39,7 +41,7 @@ impl Task {
                 (Some(queue), Some(Operation::Say(entry))) => self.start_saying(queue, entry, 0)?,
                 (Some(queue), Some(Operation::Count)) => StartOutcome::Open(self.count(queue)),
                 (Some(queue), Some(Operation::Move { target, copies })) => {
-                    self.start_move(queue, target, copies, &mut sender)?
+                    self.start_move(queue, target, copies, &mut sender)
                 }
                 (Some(_), Some(Operation::Hold | Operation::HoldForMove | Operation::Release)) => {
                     StartOutcome::ready(Ok(Outcome::Done))
@@ -117,7 +119,7 @@ impl Task {
             }
         }
         let ask = stamped(ask, &queue, moment);
-        let written = frames::ask(&AskFields::of(store, &ask))?;
+        let written = ask.written(store);
         if !self.takes_names(&ask) {
             self.counters.count_lack_of_room();
             return ready(Err(SqsError::OverLimit("There is no room for the names of more queues.".into())));
@@ -216,7 +218,7 @@ impl Task {
         let Some(book) = self.queues.books().current(self.shard.place()) else { return Ok(true) };
         let Some(client) = self.clients.take(false) else { return Ok(false) };
         let ask = Ask::Say { book, text: entry.text()?, entry: Arc::new(entry) };
-        let written = frames::ask(&AskFields::of(StoreName::of_book(book), &ask))?;
+        let written = ask.written(StoreName::of_book(book));
         let (queue, number) = (queue.clone(), self.next_number());
         let asked =
             OpenAsk { queue, ask, written, moment, client, number, weight: 0, ends: 0, is_done: false, original: None };
@@ -258,12 +260,14 @@ impl Task {
 
     pub(super) fn write(&mut self, asked: &OpenAsk) {
         let OpenAsk { moment, client, number, written, .. } = asked;
-        let out = &mut self.out.bytes;
+        self.write_request(*moment, *client, *number, written);
+    }
+
+    fn write_request(&mut self, moment: Moment, client: u32, number: u64, ask: &[u8]) {
+        let (out, write) = (&mut self.out.bytes, |out: &mut Vec<u8>| append_request(out, client, number, ask));
         match &self.chain {
-            Some(chain) => chain.request(out, *moment, frames::request(*client, *number, written)),
-            None => self.server.request(out, *moment, *number, |out| {
-                frames::put_request(out, *client, *number, written);
-            }),
+            Some(chain) => chain.request(out, moment, write),
+            None => self.server.request(out, moment, number, write),
         }
     }
 
@@ -274,11 +278,8 @@ impl Task {
     }
 
     pub(super) fn moment_at(&mut self, moment: Moment, number: u64) -> Entry {
-        let out = &mut self.out.bytes;
-        match &self.chain {
-            Some(chain) => chain.request(out, moment, frames::moment(number)),
-            None => self.server.request(out, moment, number, |out| frames::put_moment(out, number)),
-        }
+        let ask = StoreAsk::<&str>::Receive { size: 1, timeout: None }.written(NO_QUEUE);
+        self.write_request(moment, COUNTER, number, &ask);
         Entry::Moment { moment, number }
     }
 
@@ -302,9 +303,10 @@ impl Task {
 
     pub(super) fn write_count(&mut self, tag: u64, queue: &Queue) {
         let store = queue.state().entry.store;
+        let (out, write) = (&mut self.out.bytes, |out: &mut Vec<u8>| append_query(out, COUNTER, tag, store));
         match &self.chain {
-            Some(_) => chain::query(&mut self.out.bytes, frames::count(tag, store)),
-            None => self.server.query(&mut self.out.bytes, tag, |out| frames::put_count(out, tag, store)),
+            Some(_) => chain::query(out, write),
+            None => self.server.query(out, tag, write),
         }
     }
 
@@ -364,7 +366,7 @@ impl Task {
         };
         let text = entry.text()?;
         let ask = Ask::Say { book, entry: Arc::new(entry), text };
-        let written = frames::ask(&AskFields::of(StoreName::of_book(book), &ask))?;
+        let written = ask.written(StoreName::of_book(book));
         self.ask_admitted(queue, ask, written, self.clock.now(), weight)
     }
 }

@@ -11,17 +11,16 @@ mod tests;
 use std::collections::HashMap;
 use std::time::Duration;
 
-use bytes::Bytes;
-use hobbychair_cluster::parts::{Cutter, FRAME_LIMIT};
+use hobbychair_cluster::parts::{Cutter, Malformed, FRAME_LIMIT};
 use hobbychair_cluster::pipe::{FromGateway, FromNode, RequestName};
 use tokio::time::Instant;
 
+use super::clients::COUNTER;
 use super::entries::{Entry, Open};
 use super::room::adds;
 use super::{Ended, Task};
 use crate::errors::SqsError;
-use crate::frames::{self, Answer};
-use crate::lines::StoreReply;
+use crate::store_bytes::{StoreAnswer, StoreReply};
 
 /// Behind a refusal all is asked again after this time: there was no memory.
 const PAUSE: Duration = Duration::from_millis(50);
@@ -70,9 +69,11 @@ impl Default for Chain {
 }
 
 impl Chain {
-    /// Appends a request.
-    pub(super) fn request(&self, out: &mut Vec<u8>, clock: u64, request: Bytes) {
-        out.extend(FromGateway::Request { stream: self.stream, clock, request }.bytes());
+    /// Appends a request, which `write` writes.
+    pub(super) fn request(&self, out: &mut Vec<u8>, clock: u64, write: impl FnOnce(&mut Vec<u8>)) {
+        let mut request = Vec::new();
+        write(&mut request);
+        out.extend(FromGateway::Request { stream: self.stream, clock, request: request.into() }.bytes());
     }
 
     /// When there is something to do.
@@ -91,19 +92,21 @@ pub(super) fn take_due(moment: &mut Option<Instant>, now: Instant) -> bool {
 }
 
 /// Whether it is the answer to that entry.
-pub(super) fn is_answer_to(answer: &Answer, entry: &Entry) -> bool {
+pub(super) fn is_answer_to(answer: &StoreAnswer, entry: &Entry) -> bool {
     let (client, is_of_query) = match entry {
         Entry::Ask(asked) => (asked.client, false),
-        Entry::Moment { .. } => (frames::COUNTER, false),
-        Entry::Count { .. } | Entry::Probe { .. } => (frames::COUNTER, true),
+        Entry::Moment { .. } => (COUNTER, false),
+        Entry::Count { .. } | Entry::Probe { .. } => (COUNTER, true),
         Entry::Ready(_) => return false,
     };
     entry.number() == Some(answer.number) && (client, is_of_query) == (answer.client, answer.is_of_query)
 }
 
-/// Appends a query.
-pub(super) fn query(out: &mut Vec<u8>, query: Bytes) {
-    out.extend(FromGateway::Query { query }.bytes());
+/// Appends a query, which `write` writes.
+pub(super) fn query(out: &mut Vec<u8>, write: impl FnOnce(&mut Vec<u8>)) {
+    let mut query = Vec::new();
+    write(&mut query);
+    out.extend(FromGateway::Query { query: query.into() }.bytes());
 }
 
 impl Task {
@@ -150,7 +153,7 @@ impl Task {
                 self.out.bytes.extend(alive.bytes());
                 Ok(())
             }
-            FromNode::Answer { message } => self.take_answer(frames::read_answer(message)?),
+            FromNode::Answer { message } => self.take_answer(StoreAnswer::read(&message).map_err(Malformed::from)?),
             FromNode::Acts if self.is_chain_stopped() => Ok(()),
             FromNode::Acts => {
                 self.ask_open_again();
@@ -167,9 +170,9 @@ impl Task {
 
     /// Takes an answer, or keeps it until those to all earlier entries are there. One that nobody waits for is the second to
     /// something that was asked twice.
-    fn take_answer(&mut self, answer: Answer) -> Result<(), Ended> {
+    fn take_answer(&mut self, answer: StoreAnswer) -> Result<(), Ended> {
         let Some(place) = self.open.iter().position(|open| is_answer_to(&answer, &open.entry)) else { return Ok(()) };
-        let Answer { client, number, length, reply, .. } = answer;
+        let StoreAnswer { client, number, length, reply, .. } = answer;
         match &self.open[place].entry {
             Entry::Moment { .. } => self.ask_count_behind(place, length),
             // The server was detected, and hadn't heard of that.

@@ -2,7 +2,7 @@ use std::sync::Arc;
 use std::time::Duration;
 
 use bytes::{Bytes, BytesMut};
-use hobbychair_cluster::parts::{Frames, Parts};
+use hobbychair_cluster::parts::Frames;
 use tokio::io::AsyncWriteExt;
 use tokio::net::unix::{OwnedReadHalf, OwnedWriteHalf};
 use tokio::net::UnixStream;
@@ -57,18 +57,13 @@ impl Node {
         self.writing.write_all(&told.bytes()).await.unwrap();
     }
 
-    async fn answer(&mut self, (_, _, client, number, _): &Came, length: u64, reply: &[u8]) {
+    async fn answer(&mut self, (_, _, client, number, _): &Came, length: u64, reply: StoreReply) {
         self.answer_to(*client, *number, length, reply).await;
     }
 
-    async fn answer_to(&mut self, client: u32, number: u64, length: u64, reply: &[u8]) {
-        let is_of_query = reply.first() == Some(&6);
-        let mut message = vec![1, 12];
-        message.number32(client);
-        message.number64(number);
-        message.flag(is_of_query);
-        message.number64(length);
-        message.extend_from_slice(reply);
+    async fn answer_to(&mut self, client: u32, number: u64, length: u64, reply: StoreReply) {
+        let is_of_query = matches!(reply, StoreReply::Counts { .. });
+        let message = StoreAnswer { client, number, is_of_query, length, reply }.written();
         self.tell(FromNode::Answer { message: message.into() }).await;
     }
 
@@ -114,8 +109,9 @@ fn ask(store: &Store, queue: &Arc<Queue>, ask: Ask) -> tokio::task::JoinHandle<A
     tokio::spawn(async move { store.ask(&queue, ask).await })
 }
 
-const FIRST: &[u8] = &[2, 1, 0, 0, 0, 0, 0, 0, 0];
-const SECOND: &[u8] = &[2, 2, 0, 0, 0, 0, 0, 0, 0];
+const FIRST: StoreReply = StoreReply::Sent(1);
+const SECOND: StoreReply = StoreReply::Sent(2);
+const NOTHING: StoreReply = StoreReply::Received(Vec::new());
 
 fn place_of(answer: Result<Answered, tokio::task::JoinError>) -> u64 {
     match answer.unwrap().unwrap() {
@@ -160,7 +156,7 @@ async fn an_answer_to_another_gateway_is_none() {
     node.answer_to(came.2, others, 1, SECOND).await;
     // Nor is it what another client is told, or a query.
     node.answer_to(came.2 + 1, came.3, 1, SECOND).await;
-    node.answer_to(came.2, came.3, 1, &[&[6][..], &[0; 16]].concat()).await;
+    node.answer_to(came.2, came.3, 1, StoreReply::Counts { visible: 0, in_flight: 0 }).await;
     tokio::time::sleep(Duration::from_millis(100)).await;
     assert!(!one.is_finished());
     node.answer(&came, 1, FIRST).await;
@@ -182,7 +178,7 @@ async fn behind_a_refusal_all_is_asked_again_in_order_with_its_first_clocks() {
     assert_eq!((again[2].0, again[2].3), (2, came[1].3 + STEP), "what is new comes behind it");
     node.answer(&again[0], 1, FIRST).await;
     node.answer(&again[1], 2, SECOND).await;
-    node.answer(&again[2], 3, &[2, 3, 0, 0, 0, 0, 0, 0, 0]).await;
+    node.answer(&again[2], 3, StoreReply::Sent(3)).await;
     assert_eq!((place_of(one.await), place_of(other.await), place_of(third.await)), (1, 2, 3));
     node.is_asked_nothing().await;
 }
@@ -221,7 +217,7 @@ async fn when_another_server_acts_all_is_asked_again_that_has_no_answer() {
     assert_eq!((place_of(one.await), place_of(other.await)), (1, 2));
     let third = ask(&store, &queue, send("c"));
     let came = node.request().await;
-    node.answer(&came, 3, &[2, 3, 0, 0, 0, 0, 0, 0, 0]).await;
+    node.answer(&came, 3, StoreReply::Sent(3)).await;
     assert_eq!(place_of(third.await), 3);
 }
 
@@ -233,17 +229,17 @@ async fn a_count_is_asked_behind_a_request_and_an_old_one_is_none() {
         async move { store.count(&queue).await }
     });
     let came = node.request().await;
-    assert_eq!(came.2, frames::COUNTER);
+    assert_eq!(came.2, COUNTER);
     node.is_asked_nothing().await;
-    node.answer(&came, 5, &[3, 0, 0, 0, 0, 0, 0, 0, 0]).await;
+    node.answer(&came, 5, NOTHING).await;
     let query = node.next().await;
     let FromGateway::Query { query: asked } = query.clone() else { panic!("{query:?}") };
     let tag = u64::from_le_bytes(asked[4..12].try_into().unwrap());
-    let counts = |visible: u8| [&[6, visible][..], &[0; 15]].concat();
+    let counts = |visible| StoreReply::Counts { visible, in_flight: 0 };
     // Of a server that was detected: it has fewer entries than the request's place.
-    node.answer_to(frames::COUNTER, tag, 4, &counts(9)).await;
+    node.answer_to(COUNTER, tag, 4, counts(9)).await;
     assert_eq!(node.next().await, query, "it is asked again");
-    node.answer_to(frames::COUNTER, tag, 5, &counts(1)).await;
+    node.answer_to(COUNTER, tag, 5, counts(1)).await;
     assert!(matches!(counting.await.unwrap(), Ok(Outcome::Counts { visible: 1, in_flight: 0 })));
 }
 
@@ -254,7 +250,7 @@ async fn what_the_tables_say_waits_for_a_request_of_its_own() {
     let came = node.request().await;
     tokio::time::sleep(Duration::from_millis(100)).await;
     assert!(!waiting.is_finished());
-    node.answer(&came, 5, &[3, 0, 0, 0, 0, 0, 0, 0, 0]).await;
+    node.answer(&came, 5, NOTHING).await;
     assert!(waiting.await.unwrap());
 }
 
@@ -295,9 +291,9 @@ async fn what_the_tables_answer_waits_for_a_request_too() {
         async move { store.change(&queue, TableChange::Untag(Vec::new())).await }
     });
     let came = node.request().await;
-    assert_eq!(came.2, frames::COUNTER);
+    assert_eq!(came.2, COUNTER);
     tokio::time::sleep(Duration::from_millis(100)).await;
     assert!(!changing.is_finished());
-    node.answer(&came, 5, &[3, 0, 0, 0, 0, 0, 0, 0, 0]).await;
+    node.answer(&came, 5, NOTHING).await;
     assert!(matches!(changing.await.unwrap(), Ok(Outcome::Done)));
 }

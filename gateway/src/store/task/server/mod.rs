@@ -22,8 +22,8 @@ use super::room::{adds, refusal_for_room};
 use super::{Ended, Task};
 use crate::clock::Moment;
 use crate::errors::SqsError;
-use crate::frames::{self, BadFrame};
 use crate::queues::ask::{Ask, Cause, Outcome};
+use crate::store_bytes::{BadFrame, StoreAnswer};
 
 /// After this time something is tried again for which there was no memory.
 const PAUSE: Duration = Duration::from_millis(50);
@@ -151,8 +151,8 @@ impl Task {
     /// Takes an answer. Those come in the order of the asks. One to a query that nobody waits for is of a query that was given
     /// again.
     fn take_put(&mut self, piece: Bytes) -> Result<(), Ended> {
-        let answer = frames::read_answer(piece).map_err(BadFrame)?;
-        let frames::Answer { client, number, is_of_query, .. } = answer;
+        let answer = StoreAnswer::read(&piece).map_err(BadFrame::from)?;
+        let StoreAnswer { client, number, is_of_query, .. } = answer;
         let is_asked = |open: &Open| open.entry.number() == Some(number);
         match self.open.front() {
             Some(open) if is_answer_to(&answer, &open.entry) => self.answered(client, number, answer.reply),
@@ -196,10 +196,11 @@ impl Task {
             Entry::Ask(_) | Entry::Moment { .. } if given.stream == self.server.stream => {
                 self.end_stream(place);
                 match code {
-                    NO_ROOM => self.request_without_room(place),
+                    NO_ROOM => return self.request_without_room(place),
                     NO_MEMORY => self.request_without_memory(place),
                     _ => self.request_unread(place, code),
                 }
+                Ok(())
             }
             Entry::Ask(_) | Entry::Moment { .. } | Entry::Ready(_) => Ok(()),
         }
@@ -226,14 +227,18 @@ impl Task {
                 let (refusal, source) = (refusal_for_room(adds(&asked.ask)), source_of(&asked.ask));
                 self.counters.count_lack_of_room();
                 // Copies of a group's messages are there in their order.
-                self.refuse(place, refusal, |ask| source.is_some() && source_of(ask) == source)
+                self.refuse(place, refusal, |ask| source.is_some() && source_of(ask) == source);
+                Ok(())
             }
-            _ => self.moment_without_room(place),
+            _ => {
+                self.moment_without_room(place);
+                Ok(())
+            }
         }
     }
 
     /// A request that only moves the moment on is seen to answer all the same. A count behind it would be of an earlier moment.
-    fn moment_without_room(&mut self, place: usize) -> Result<(), Ended> {
+    fn moment_without_room(&mut self, place: usize) {
         if let Some(open) = self.open.get_mut(place) {
             open.entry = Entry::Ready(open.sender.is_some().then_some(Ok(Outcome::Done)));
         }
@@ -242,15 +247,14 @@ impl Task {
         }
         self.ends = 0;
         self.give_from(place);
-        Ok(())
     }
 
     /// A send of a client for which there is no memory is given up, so that what frees memory comes behind it. All else waits.
-    fn request_without_memory(&mut self, place: usize) -> Result<(), Ended> {
+    fn request_without_memory(&mut self, place: usize) {
         let (number, is_given_up) = match self.open.get(place).map(|open| &open.entry) {
             Some(Entry::Ask(asked)) => (asked.number, adds(&asked.ask) && !asked.is_done),
             Some(Entry::Moment { number, .. }) => (*number, false),
-            _ => return Ok(()),
+            _ => return,
         };
         if is_given_up {
             return self.refuse(place, SqsError::OverLimit("The store has no memory left.".into()), |_| false);
@@ -258,21 +262,20 @@ impl Task {
         tracing::warn!("cq has no memory for a request, which is given to it again");
         self.ends = 0;
         self.server.stopped = Some(Stop { until: Instant::now() + PAUSE, number });
-        Ok(())
     }
 
     /// A request that the program can't read is refused.
-    fn request_unread(&mut self, place: usize, code: u32) -> Result<(), Ended> {
+    fn request_unread(&mut self, place: usize, code: u32) {
         if let Some(Open { entry: Entry::Ask(asked), .. }) = self.open.get(place) {
             let (queue, bytes) = (&asked.queue.name, asked.written.len());
             // What stands in it is the client's, and goes to no log.
             tracing::warn!(%queue, bytes, "cq refused {} ({code})", asked.ask.kind());
         }
-        self.refuse(place, SqsError::of_refusal(code), |_| false)
+        self.refuse(place, SqsError::of_refusal(code), |_| false);
     }
 
     /// Refuses the request at this place, and of the asks behind it those that `are_refused`, too. All others are given again.
-    fn refuse(&mut self, place: usize, refusal: SqsError, are_refused: impl Fn(&Ask) -> bool) -> Result<(), Ended> {
+    fn refuse(&mut self, place: usize, refusal: SqsError, are_refused: impl Fn(&Ask) -> bool) {
         let mut refused = Vec::new();
         for (index, open) in self.open.iter_mut().enumerate().skip(place) {
             let (is_refused, is_answered) = match &open.entry {
@@ -291,10 +294,9 @@ impl Task {
             if let Entry::Ask(asked) = entry {
                 self.close(&asked);
                 self.admission.answered(asked.weight);
-                self.go_on_with(&asked, false)?;
+                self.go_on_with(&asked, false);
             }
         }
-        Ok(())
     }
 
     /// Gives what is open from this place on.

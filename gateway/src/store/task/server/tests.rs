@@ -2,7 +2,7 @@ use std::sync::Arc;
 
 use bytes::Bytes;
 use hobbychair_cluster::commands::{Place, Standing};
-use hobbychair_cluster::parts::{Frames, Parts, Reader};
+use hobbychair_cluster::parts::{Frames, Reader};
 use tokio::io::AsyncWriteExt;
 use tokio::net::unix::{OwnedReadHalf, OwnedWriteHalf};
 use tokio::net::UnixStream;
@@ -17,9 +17,10 @@ use crate::queues::ask::{Ask, Cause, Outcome, StoreName};
 use crate::queues::book::QueueEntry;
 use crate::queues::shards::Shards;
 use crate::queues::{Queue, Queues};
+use crate::store::task::clients::COUNTER;
 use crate::store::task::{start, Ends, Kept, Start};
 use crate::store::{Answer as Answered, Copy, Store};
-use crate::store_bytes::Receipt;
+use crate::store_bytes::{Receipt, StoreReply};
 use crate::texts::{DedupId, GroupId, QueueName};
 
 /// The other end of the gateway's pipe.
@@ -50,7 +51,7 @@ impl Program {
                 Given::Request((stream, clock, client, number, frame.slice(30..)))
             }
             1 => {
-                assert_eq!(from.number32().unwrap(), frames::COUNTER);
+                assert_eq!(from.number32().unwrap(), COUNTER);
                 Given::Query(from.number64().unwrap())
             }
             5 => Given::More,
@@ -88,24 +89,20 @@ impl Program {
         self.tell(Response::Done(Standing::default())).await;
     }
 
-    async fn put(&mut self, client: u32, number: u64, reply: &[u8]) {
-        let mut piece = vec![1, 12];
-        piece.number32(client);
-        piece.number64(number);
-        piece.flag(reply.first() == Some(&6));
-        piece.number64(1);
-        piece.extend_from_slice(reply);
+    async fn put(&mut self, client: u32, number: u64, reply: StoreReply) {
+        let is_of_query = matches!(reply, StoreReply::Counts { .. });
+        let piece = StoreAnswer { client, number, is_of_query, length: 1, reply }.written().into();
         let place = Place { number: 1, index: 0 };
-        self.tell(Response::Put { to: Party::Clients, place, piece: piece.into() }).await;
+        self.tell(Response::Put { to: Party::Clients, place, piece }).await;
     }
 
-    async fn answer(&mut self, (_, _, client, number, _): &Came, reply: &[u8]) {
+    async fn answer(&mut self, (_, _, client, number, _): &Came, reply: StoreReply) {
         self.put(*client, *number, reply).await;
         self.done().await;
     }
 
-    async fn answer_query(&mut self, tag: u64, visible: u8) {
-        self.put(frames::COUNTER, tag, &[&[6, visible][..], &[0; 15]].concat()).await;
+    async fn answer_query(&mut self, tag: u64, visible: u64) {
+        self.put(COUNTER, tag, StoreReply::Counts { visible, in_flight: 0 }).await;
         self.done().await;
     }
 
@@ -194,12 +191,8 @@ fn count(store: &Store, queue: &Arc<Queue>) -> JoinHandle<Answered> {
     tokio::spawn(async move { store.count(&queue).await })
 }
 
-fn sent(sequence: u8) -> [u8; 9] {
-    [2, sequence, 0, 0, 0, 0, 0, 0, 0]
-}
-
-const NO_QUEUE: &[u8] = &[7, 1, 0, 0, 0];
-const DELETED: &[u8] = &[4, 1];
+const NO_QUEUE: StoreReply = StoreReply::Refused(1);
+const DELETED: StoreReply = StoreReply::Deleted(true);
 
 async fn sequence_of(answer: JoinHandle<Answered>) -> u64 {
     match answer.await.unwrap().unwrap() {
@@ -223,8 +216,8 @@ async fn requests_are_given_ahead_in_one_stream_and_numbers_begin_above_the_larg
     let (answers, came) = given(&store, &queue, &mut program, vec![send("a"), send("b")]).await;
     assert_eq!((came[0].0, came[1].0, came[0].3, came[1].3), (1, 1, LARGEST + 1, LARGEST + 2));
     assert!(came[0].2 != came[1].2 && came[0].1 <= came[1].1);
-    program.answer(&came[0], &sent(1)).await;
-    program.answer(&came[1], &sent(2)).await;
+    program.answer(&came[0], StoreReply::Sent(1)).await;
+    program.answer(&came[1], StoreReply::Sent(2)).await;
     for (place, answer) in (1..).zip(answers) {
         assert_eq!(sequence_of(answer).await, place);
     }
@@ -235,7 +228,7 @@ async fn behind_want_of_room_all_is_given_again_at_once_in_order_with_its_first_
     let (store, queue, mut program, _ends) = store();
     let asks = ["a", "b", "c", "d"].map(send).into();
     let (mut answers, came) = given(&store, &queue, &mut program, asks).await;
-    program.answer(&came[0], &sent(1)).await;
+    program.answer(&came[0], StoreReply::Sent(1)).await;
     program.refuse(&[NO_ROOM]).await;
     assert_eq!(program.requests(2).await, in_stream(2, &came[2..]));
     // What was given in the stream that has ended comes back by and by, and nothing follows from it.
@@ -244,7 +237,7 @@ async fn behind_want_of_room_all_is_given_again_at_once_in_order_with_its_first_
     assert_eq!(program.requests(1).await, in_stream(3, &came[3..]));
     program.refuse(&[STREAM_ENDED]).await;
     program.is_given_nothing().await;
-    program.answer(&came[3], &sent(2)).await;
+    program.answer(&came[3], StoreReply::Sent(2)).await;
     assert_eq!(sequence_of(answers.pop().unwrap()).await, 2);
     assert!(matches!(refusal_of(answers.pop().unwrap()).await, SqsError::OverLimit(_)));
     assert!(matches!(refusal_of(answers.pop().unwrap()).await, SqsError::OverLimit(_)));
@@ -253,7 +246,7 @@ async fn behind_want_of_room_all_is_given_again_at_once_in_order_with_its_first_
     let next = ask(&store, &queue, send("e"));
     let came = program.request().await;
     assert_eq!(came.0, 3, "that stream goes on");
-    program.answer(&came, &sent(3)).await;
+    program.answer(&came, StoreReply::Sent(3)).await;
     assert_eq!(sequence_of(next).await, 3);
 }
 
@@ -263,7 +256,7 @@ async fn what_adds_nothing_is_told_another_refusal() {
     let (mut answers, came) = given(&store, &queue, &mut program, vec![delete(1), send("a")]).await;
     program.refuse(&[NO_ROOM, STREAM_ENDED]).await;
     assert_eq!(program.requests(1).await, in_stream(2, &came[1..]));
-    program.answer(&came[1], &sent(1)).await;
+    program.answer(&came[1], StoreReply::Sent(1)).await;
     assert_eq!(sequence_of(answers.pop().unwrap()).await, 1);
     assert!(matches!(refusal_of(answers.pop().unwrap()).await, SqsError::ServiceUnavailable(_)));
 }
@@ -323,7 +316,7 @@ async fn a_send_without_memory_is_given_up_and_all_else_waits_for_memory() {
     assert!(begun.elapsed() >= PAUSE);
     let last = program.request().await;
     assert_eq!((last.0, last.3), (3, came[2].3 + 1), "what is new comes behind it");
-    for (came, reply) in [(&came[1], DELETED), (&came[2], &sent(1)), (&last, &sent(2))] {
+    for (came, reply) in [(&came[1], DELETED), (&came[2], StoreReply::Sent(1)), (&last, StoreReply::Sent(2))] {
         program.answer(came, reply).await;
     }
     assert_eq!((sequence_of(answers.pop().unwrap()).await, sequence_of(next).await), (1, 2));
@@ -340,7 +333,7 @@ async fn a_count_without_memory_is_refused() {
     let (answers, came) = given(&store, &queue, &mut program, vec![send("a")]).await;
     program.answer(&moment, NO_QUEUE).await;
     program.refuse(&[NO_MEMORY]).await;
-    program.answer(&came[0], &sent(1)).await;
+    program.answer(&came[0], StoreReply::Sent(1)).await;
     assert!(matches!(refusal_of(counting).await, SqsError::ServiceUnavailable(_)));
     assert_eq!(sequence_of(answers.into_iter().next().unwrap()).await, 1);
 }
@@ -352,7 +345,7 @@ async fn what_cannot_be_read_is_refused_alone() {
     program.tell(Response::Unread(93)).await;
     assert_eq!(program.requests(1).await, in_stream(2, &came[1..]));
     program.refuse(&[STREAM_ENDED]).await;
-    program.answer(&came[1], &sent(1)).await;
+    program.answer(&came[1], StoreReply::Sent(1)).await;
     assert_eq!(sequence_of(answers.pop().unwrap()).await, 1);
     assert!(matches!(refusal_of(answers.pop().unwrap()).await, SqsError::InternalFailure(_)));
 }
@@ -369,8 +362,8 @@ async fn answers_that_wait_for_memory_are_asked_for() {
     program.tell(Response::Waiting(Party::Clients)).await;
     program.done().await;
     assert!(matches!(program.next().await, Given::More));
-    program.put(came[0].2, came[0].3, &sent(1)).await;
-    program.answer(&came[1], &sent(2)).await;
+    program.put(came[0].2, came[0].3, StoreReply::Sent(1)).await;
+    program.answer(&came[1], StoreReply::Sent(2)).await;
     program.is_given_nothing().await;
     assert_eq!((sequence_of(answers.pop().unwrap()).await, sequence_of(answers.pop().unwrap()).await), (2, 1));
 }
@@ -384,8 +377,8 @@ async fn a_request_behind_answers_that_wait_is_refused_in_its_turn() {
     program.refuse(&[NO_ROOM, STREAM_ENDED]).await;
     assert_eq!(program.requests(1).await, in_stream(2, &came[2..]));
     assert!(answers.iter().all(|answer| !answer.is_finished()));
-    program.put(came[0].2, came[0].3, &sent(1)).await;
-    program.answer(&came[2], &sent(2)).await;
+    program.put(came[0].2, came[0].3, StoreReply::Sent(1)).await;
+    program.answer(&came[2], StoreReply::Sent(2)).await;
     assert_eq!(sequence_of(answers.pop().unwrap()).await, 2);
     assert!(matches!(refusal_of(answers.pop().unwrap()).await, SqsError::OverLimit(_)));
     assert_eq!(sequence_of(answers.pop().unwrap()).await, 1);
@@ -407,13 +400,13 @@ async fn copies_behind_one_without_room_are_not_made() {
     });
     let came = program.requests(3).await;
     let (mut answers, behind) = (Vec::new(), ask(&store, &target, send("a")));
-    program.answer(&came[0], &sent(1)).await;
+    program.answer(&came[0], StoreReply::Sent(1)).await;
     program.refuse(&[NO_ROOM, STREAM_ENDED]).await;
     // The third one isn't made, though there may be room for it by now: it would stand before the second one.
     let next = program.request().await;
     assert_eq!((next.0, &next.4[..1]), (2, &[2][..]));
     assert!(next.3 > came[2].3);
-    program.answer(&next, &sent(2)).await;
+    program.answer(&next, StoreReply::Sent(2)).await;
     answers.extend(moving.await.unwrap());
     assert!(answers[0].is_ok() && answers.len() == 3);
     assert!(answers[1..].iter().all(|answer| matches!(answer, Err(SqsError::ServiceUnavailable(_)))));
@@ -427,9 +420,9 @@ async fn what_is_no_answer_ends_it() {
         let (_answers, came) = given(&store, &queue, &mut program, vec![send("a")]).await;
         match what {
             "none" => program.done().await,
-            "of another" => program.answer(&(1, 0, came[0].2, came[0].3 + 1, Bytes::new()), &sent(1)).await,
+            "of another" => program.answer(&(1, 0, came[0].2, came[0].3 + 1, Bytes::new()), StoreReply::Sent(1)).await,
             "to nothing" => {
-                program.answer(&came[0], &sent(1)).await;
+                program.answer(&came[0], StoreReply::Sent(1)).await;
                 program.done().await;
             }
             _ => program.tell(Response::Waiting(Party::Master)).await,

@@ -1,27 +1,21 @@
 //! Stores that the proved program wrote, and such that are none.
 
+use std::collections::HashSet;
+
+use hobbychair_cluster::parts::VERSION;
 use proptest::prelude::*;
 use proptest::sample::Index;
 
-use super::written::{append, chunk};
-use super::*;
+use super::{bytes_of, said_of, ASKED, SAID};
+use crate::clock::Moment;
 use crate::seeded::{check, edits, spoilt};
+use crate::store_bytes::written::{append, chunk};
+use crate::store_bytes::{Fault, KeptHandings, Part, QueuePart, StoreReader};
 use crate::texts::hex;
-
-/// What the program that tries bytes was asked, and what it said.
-const ASKED: &str = include_str!(concat!(env!("CARGO_MANIFEST_DIR"), "/../crates/cq_check_wire/stdin"));
-const SAID: &str = include_str!(concat!(env!("CARGO_MANIFEST_DIR"), "/../crates/cq_check_wire/stdout"));
-
-fn bytes_of(digits: &str) -> Vec<u8> {
-    let byte = |place| u8::from_str_radix(&digits[place..place + 2], 16).unwrap();
-    (0..digits.len()).step_by(2).map(byte).collect()
-}
 
 /// The stores that it wrote, and their words.
 fn written_stores() -> Vec<(Vec<u8>, &'static str)> {
-    let pairs = SAID.lines().filter_map(|line| line.split_once(' '));
-    let stores = pairs.filter_map(|(digits, words)| Some((digits, words.strip_prefix("store ")?)));
-    let stores: Vec<_> = stores.map(|(digits, words)| (bytes_of(digits), words)).collect();
+    let stores = said_of("store");
     assert!(stores.len() >= 4);
     stores
 }
