@@ -1,9 +1,10 @@
 //! What a message has beside its body, and the envelope in which all of it stands in the store.
 
 use std::collections::BTreeMap;
+use std::sync::Arc;
 
 use md5::{Digest, Md5};
-use serde::{Deserialize, Serialize};
+use serde::{Deserialize, Serialize, Serializer};
 use uuid::Uuid;
 
 use crate::clock::Moment;
@@ -292,6 +293,47 @@ pub fn read_envelope(whole: &str) -> Option<(Metadata, &str)> {
     Some((serde_json::from_str(metadata).ok()?, body))
 }
 
+/// The body of a message, in the memory of its envelope.
+#[derive(Clone, Debug)]
+pub struct EnvelopeBody {
+    envelope: Arc<str>,
+    start: usize,
+}
+
+impl EnvelopeBody {
+    /// The metadata and the body of an envelope. None if the text is none.
+    pub fn read(whole: &Arc<str>) -> Option<(Metadata, EnvelopeBody)> {
+        let (metadata, body) = read_envelope(whole)?;
+        let start = whole.len() - body.len();
+        Some((metadata, EnvelopeBody { envelope: whole.clone(), start }))
+    }
+
+    pub fn as_str(&self) -> &str {
+        &self.envelope[self.start..]
+    }
+}
+
+impl PartialEq for EnvelopeBody {
+    fn eq(&self, other: &EnvelopeBody) -> bool {
+        self.as_str() == other.as_str()
+    }
+}
+
+impl Eq for EnvelopeBody {}
+
+impl Serialize for EnvelopeBody {
+    fn serialize<S: Serializer>(&self, serializer: S) -> Result<S::Ok, S::Error> {
+        serializer.serialize_str(self.as_str())
+    }
+}
+
+#[cfg(test)]
+impl From<&str> for EnvelopeBody {
+    fn from(body: &str) -> EnvelopeBody {
+        EnvelopeBody { envelope: body.into(), start: 0 }
+    }
+}
+
 /// The metadata that the tables need, and that a move changes. Of a message whose envelope is too long for the store this
 /// is all that the store has in its place, and the envelope stands in parts.
 #[derive(Clone, Debug, Default, PartialEq, Eq, Serialize, Deserialize)]
@@ -523,6 +565,7 @@ mod tests {
             let metadata = Metadata { id, ..metadata.clone() };
             let envelope = Envelope::new(&metadata, &Body::parse("one\ntwo").unwrap()).unwrap();
             assert_eq!(read_envelope(envelope.text()), Some((metadata.clone(), "one\ntwo")));
+            assert_eq!(EnvelopeBody::read(&envelope.text().into()), Some((metadata.clone(), "one\ntwo".into())));
             let head = EnvelopeHead { id, sent: metadata.sent, ..EnvelopeHead::default() };
             assert_eq!((EnvelopeHead::of(envelope.text()), own_id(envelope.text())), (Some(head), id));
         }

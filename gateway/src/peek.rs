@@ -320,10 +320,10 @@ fn insert_each(map: &mut Map<String, Value>, name: &str, mut values: Vec<Value>)
 fn message_in_json(message: &ReceivedMessage) -> Value {
     let mut reply = Map::new();
     for (name, value) in [
-        ("MessageId", &message.message_id),
+        ("MessageId", message.message_id.as_str()),
         ("ReceiptHandle", &message.receipt_handle),
         ("MD5OfBody", &message.md5_of_body),
-        ("Body", &message.body),
+        ("Body", message.body.as_str()),
     ] {
         reply.insert(name.into(), json!(value));
     }

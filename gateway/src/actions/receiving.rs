@@ -9,7 +9,7 @@ use crate::deliveries::{self, has_most_in_flight, Delivered};
 use crate::digests::{md5_of_attributes, md5_of_text};
 use crate::errors::SqsError;
 use crate::handles::Handle;
-use crate::messages::{read_envelope, MessageAttributes, Metadata};
+use crate::messages::{EnvelopeBody, MessageAttributes, Metadata};
 use crate::parts;
 use crate::polling::{self, AnswerMemory, Room, Waiter};
 use crate::queues::ask::{Ask, Changer, Handed, Reach};
@@ -108,7 +108,7 @@ pub fn show(
     shown: &Shown,
     (owner, receipt_handle): (&Owner, String),
 ) -> Result<ReceivedMessage, SqsError> {
-    let (metadata, body) = read_envelope(&handed.envelope)
+    let (metadata, body) = EnvelopeBody::read(&handed.envelope)
         .ok_or_else(|| SqsError::InternalFailure("The store has a message in no form.".into()))?;
     let id = metadata.id_at(queue.mark, handed.receipt.sequence);
     let system = shown.system().iter();
@@ -120,8 +120,8 @@ pub fn show(
     Ok(ReceivedMessage {
         message_id: id.to_string(),
         receipt_handle,
-        md5_of_body: md5_of_text(body),
-        body: body.into(),
+        md5_of_body: md5_of_text(body.as_str()),
+        body,
         attributes,
         md5_of_attributes: (!message_attributes.is_empty()).then(|| md5_of_attributes(&message_attributes)),
         message_attributes,

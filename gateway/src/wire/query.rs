@@ -441,7 +441,7 @@ fn received(xml: &mut Xml, message: &ReceivedMessage) {
     xml.leaf("MessageId", &message.message_id);
     xml.leaf("ReceiptHandle", &message.receipt_handle);
     xml.leaf("MD5OfBody", &message.md5_of_body);
-    xml.leaf("Body", &message.body);
+    xml.leaf("Body", message.body.as_str());
     for (name, value) in &message.attributes {
         xml.pair("Attribute", "Name", name, value);
     }
@@ -623,7 +623,7 @@ mod tests {
             message_id: text(),
             receipt_handle: text(),
             md5_of_body: text(),
-            body: text(),
+            body: hostile.as_str().into(),
             attributes: vec![("SenderId", text())],
             md5_of_attributes: Some(text()),
             message_attributes: [(

@@ -4,7 +4,7 @@ use serde::ser::{SerializeMap, Serializer};
 use serde::Serialize;
 
 use crate::errors::SqsError;
-use crate::messages::MessageAttributes;
+use crate::messages::{EnvelopeBody, MessageAttributes};
 
 /// The result of an action that was done.
 #[derive(Clone, Debug, PartialEq)]
@@ -66,7 +66,7 @@ pub struct ReceivedMessage {
     pub receipt_handle: String,
     #[serde(rename = "MD5OfBody")]
     pub md5_of_body: String,
-    pub body: String,
+    pub body: EnvelopeBody,
     #[serde(skip_serializing_if = "Vec::is_empty", serialize_with = "as_map")]
     pub attributes: Vec<(&'static str, String)>,
     #[serde(rename = "MD5OfMessageAttributes", skip_serializing_if = "Option::is_none")]

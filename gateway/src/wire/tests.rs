@@ -133,12 +133,12 @@ fn any_bytes_and_any_query_are_read_or_refused() {
     });
 }
 
-fn message_of(body: String) -> Response {
+fn message_of(body: &str) -> Response {
     Response::Messages(vec![ReceivedMessage {
         message_id: "id".into(),
         receipt_handle: "handle".into(),
         md5_of_body: "md5".into(),
-        body,
+        body: body.into(),
         attributes: Vec::new(),
         md5_of_attributes: None,
         message_attributes: MessageAttributes::new(),
@@ -160,7 +160,7 @@ fn any_body_comes_back_in_both_protocols() {
     let bodies = prop_oneof!["(?s).{0,40}", "[&<>\"'\\r\\n\\t ;#xamp]{0,30}"];
     check(2000, bodies, |body| {
         prop_assume!(test_characters(&body).is_ok());
-        let response = message_of(body.clone());
+        let response = message_of(&body);
         let json = Protocol::Json.answer(Action::ReceiveMessage, &response, "r".into());
         let read: serde_json::Value = serde_json::from_slice(&json.body).unwrap();
         prop_assert_eq!(&read["Messages"][0]["Body"], body.as_str());
