@@ -10,12 +10,13 @@ use clap_complete::Shell;
 use hobbychair_cluster::command_line as cluster;
 
 use crate::answers;
-use crate::config::{LogFormat, LogLevel, LogSettings, Misuse, Options};
+use crate::config::{LogFormat, LogLevel, LogSettings, Options};
 use crate::draw::{draw, Drawing};
 use crate::front;
 use crate::history;
 use crate::inspect;
 use crate::log;
+use crate::misuse::Misuse;
 use crate::serve::{self, serve};
 use crate::shell::{self, Shell as ChainShell};
 

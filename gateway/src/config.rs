@@ -10,18 +10,13 @@ use clap::ValueEnum;
 use hobbychair_cluster::identity::IdentityFiles;
 use hobbychair_cluster::memory;
 use serde::Deserialize;
-use thiserror::Error;
 
 use crate::actions::{Owner, Pauses};
 use crate::front;
 use crate::journal::Files;
+use crate::misuse::Misuse;
 use crate::queues::shards::Shards;
 use crate::serve::Settings;
-
-/// What was asked for can't be meant: the command line, a variable or the file is at fault.
-#[derive(Debug, Error)]
-#[error("{0}")]
-pub struct Misuse(pub String);
 
 /// The options of `serve`. A file has the same names, and each option has a variable: `HOBBYCHAIR_` and its name.
 #[derive(Clone, Debug, Default, clap::Args, Deserialize)]

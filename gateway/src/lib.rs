@@ -5,6 +5,7 @@
 //! (`queues`), and goes to the client (`http`).
 
 mod access;
+mod action;
 mod actions;
 mod admin;
 mod answers;
@@ -35,6 +36,7 @@ mod limits;
 mod log;
 mod messages;
 mod metrics;
+mod misuse;
 mod move_tasks;
 mod moves;
 mod parts;

@@ -8,6 +8,7 @@ use serde::{Deserialize, Serialize};
 use uuid::Uuid;
 
 use crate::access::Keys;
+use crate::action::Action;
 use crate::clock::Moment;
 use crate::errors::SqsError;
 use crate::moves::move_each;
@@ -15,7 +16,6 @@ use crate::queues::ask::{Handed, TableChange};
 use crate::queues::Queue;
 use crate::store::Store;
 use crate::texts::QueueName;
-use crate::wire::requests::Action;
 
 /// How a task stands (API Reference, ListMessageMoveTasks, `Status`).
 #[derive(Clone, Copy, Debug, PartialEq, Eq, Serialize, Deserialize)]

@@ -8,11 +8,11 @@ use std::time::{Duration, Instant};
 use sha2::{Digest, Sha256};
 use tokio::sync::watch;
 
+use crate::action::Action;
 use crate::clock::Clock;
 use crate::presence::{Presence, Present};
 use crate::queues::Queue;
 use crate::store_bytes::Receipt;
-use crate::wire::requests::Action;
 use crate::wire::Reply;
 
 /// So long an answer is kept.

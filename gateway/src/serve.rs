@@ -20,7 +20,7 @@ use crate::admin::{Admin, Health};
 use crate::book;
 use crate::budget::Budget;
 use crate::clock::{Clock, Moment};
-use crate::config::{Address, DeclaredQueue, Misuse};
+use crate::config::{Address, DeclaredQueue};
 use crate::cq::{test_built, test_version, Cq};
 use crate::delays;
 use crate::ending::End;
@@ -28,6 +28,7 @@ use crate::http::{is_of_this_machine, listen, shared, test_free, Addresses, Door
 use crate::inspect::refuse_other_builds;
 use crate::journal::{emptied, has_had_requests, has_one_name, take_space, Files, JournalError, Lock};
 use crate::metrics::Metrics;
+use crate::misuse::Misuse;
 use crate::move_tasks;
 use crate::moves;
 use crate::parts;

@@ -7,7 +7,7 @@ use thiserror::Error;
 use toml::value::{Table, Value};
 
 use super::identity::Identity;
-use crate::wire::requests::Action;
+use crate::action::Action;
 
 /// The longest access key, in characters.
 const LONGEST_KEY: usize = 128;

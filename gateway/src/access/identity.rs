@@ -2,9 +2,9 @@
 
 use std::collections::HashSet;
 
+use crate::action::Action;
 use crate::errors::SqsError;
 use crate::texts::QueueName;
-use crate::wire::requests::Action;
 
 /// Who asks, and what that one may do.
 #[derive(Clone, Debug, PartialEq, Eq)]

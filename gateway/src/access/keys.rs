@@ -17,9 +17,9 @@ use super::query::Query;
 use super::signature::{string_to_sign, SigningKey};
 use super::timestamp::Timestamp;
 use super::Signable;
+use crate::action::Action;
 use crate::errors::SqsError;
 use crate::texts::QueueName;
-use crate::wire::requests::Action;
 
 /// The keys of a file, which can be read again while requests come in.
 pub struct Keys {

@@ -1,11 +1,11 @@
 //! Which queues are whose dead-letter queues.
 
 use super::{Actions, Caller, Performed};
+use crate::action::Action;
 use crate::attributes::GivenAttributes;
 use crate::errors::SqsError;
 use crate::redrive::{refusal, QueueArn, RedriveAllowPolicy, RedrivePolicy, REDRIVE_ALLOW_POLICY, REDRIVE_POLICY};
 use crate::texts::QueueName;
-use crate::wire::requests::Action;
 use crate::wire::tokens::token_behind;
 use crate::wire::Response;
 

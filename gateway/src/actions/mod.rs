@@ -18,6 +18,7 @@ use tokio::sync::{Mutex, Semaphore};
 use uuid::Uuid;
 
 use crate::access::Identity;
+use crate::action::Action;
 use crate::budget::Share;
 use crate::ending::Ending;
 use crate::errors::SqsError;
@@ -28,7 +29,6 @@ use crate::queues::Queue;
 use crate::store::Store;
 use crate::store_bytes::Receipt;
 use crate::texts::QueueName;
-use crate::wire::requests::Action;
 use crate::wire::{Request, Response};
 
 /// Who asks.

@@ -7,13 +7,14 @@ use sha2::Sha256;
 use uuid::{Builder, Uuid};
 
 use super::{Actions, Caller, Performed};
+use crate::action::Action;
 use crate::errors::SqsError;
 use crate::move_tasks::{run, MoveTask, Status};
 use crate::queues::ask::TableChange;
 use crate::queues::Queue;
 use crate::redrive::QueueArn;
 use crate::texts::QueueName;
-use crate::wire::requests::{Action, StartMove, TaskHandle};
+use crate::wire::requests::{StartMove, TaskHandle};
 use crate::wire::responses::ListedTask;
 use crate::wire::Response;
 

@@ -17,7 +17,7 @@ use anyhow::{bail, Context, Result};
 use clap::Args;
 
 use crate::chain::SHOW;
-use crate::config::Misuse;
+use crate::misuse::Misuse;
 
 /// A picture of more lines than that is none that a person can read.
 const LINES_LIMIT: usize = 2_000;

@@ -7,7 +7,7 @@ use anyhow::{anyhow, bail, Context, Result};
 
 use super::events::Event;
 use crate::chain::{watching, Reply, Shown, Told, SHOW};
-use crate::config::Misuse;
+use crate::misuse::Misuse;
 
 /// What came of one line that isn't blank.
 pub struct Step {

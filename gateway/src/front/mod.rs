@@ -30,16 +30,17 @@ use tokio::sync::Semaphore;
 use tokio::time::{timeout, Instant};
 use uuid::Uuid;
 
+use crate::action::Action;
 use crate::admin::serve_operators;
 use crate::budget::{Budget, Share};
-use crate::config::{Address, Misuse};
+use crate::config::Address;
 use crate::ending::{End, Ending};
 use crate::errors::SqsError;
 use crate::http::{bodies, is_of_this_machine, listen, protocol_of, refused, to_be_written, Places};
 use crate::http::{Progress, Watched, LONGEST_HEAD};
+use crate::misuse::Misuse;
 use crate::serve::{listen_for_operators, log_read_again, notify_supervisor, say};
 use crate::tls::{Certificate, LONGEST_HANDSHAKE};
-use crate::wire::Action;
 
 use self::contact::Contact;
 use self::headers::{Asked, Came};

@@ -8,8 +8,8 @@ use anyhow::Result;
 use hyper::http::request::Parts;
 
 use crate::access::Keys;
+use crate::action::Action;
 use crate::http::{incoming, protocol_of, signable, Unread};
-use crate::wire::Action;
 
 /// Tests requests before they are passed on.
 #[derive(Clone)]

@@ -21,8 +21,8 @@ use std::io::{BufRead, Write};
 
 use anyhow::Result;
 
-use crate::config::Misuse;
 use crate::log;
+use crate::misuse::Misuse;
 use finding::{Finding, Judged};
 use line::Line;
 use service::Service;

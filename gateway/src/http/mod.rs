@@ -24,6 +24,7 @@ use tokio::time::Instant;
 use uuid::Uuid;
 
 use crate::access::{Identity, Keys};
+use crate::action::Action;
 use crate::actions::{Actions, Caller};
 use crate::budget::{Budget, Share};
 use crate::clock::Moment;
@@ -33,7 +34,6 @@ use crate::presence::Presence;
 use crate::repeats::{is_repeat, CallFields, CallResult, IdempotencyKey, Lookup, OpenCall, Repeats};
 use crate::store::wanted_until;
 use crate::texts::QueueName;
-use crate::wire::requests::Action;
 use crate::wire::{self, Protocol, Reply};
 
 pub use address::{is_of_this_machine, Addresses};

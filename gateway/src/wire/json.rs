@@ -2,10 +2,11 @@
 
 use serde::Serialize;
 
-use super::requests::{self, Action, Request};
+use super::requests::{self, Request};
 use super::responses::{as_map, Failed, ListedTask, Pairs, ReceivedMessage, Response, Succeeded};
 use super::value::{Map, Value, MOST_VALUES};
 use super::{fault, Incoming, Reply};
+use crate::action::Action;
 use crate::errors::SqsError;
 
 const CONTENT_TYPE: &str = "application/x-amz-json-1.0";

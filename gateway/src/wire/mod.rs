@@ -11,9 +11,10 @@ pub mod tokens;
 mod value;
 
 pub use query::peeked;
-pub use requests::{Action, Request};
+pub use requests::Request;
 pub use responses::Response;
 
+use crate::action::Action;
 use crate::errors::SqsError;
 
 /// Whose action a request asks for.

@@ -6,10 +6,11 @@ use std::collections::BTreeMap;
 use quick_xml::events::{BytesDecl, BytesEnd, BytesStart, BytesText, Event};
 use quick_xml::Writer;
 
-use super::requests::{self, Action, Request};
+use super::requests::{self, Request};
 use super::responses::{Failed, ListedTask, ReceivedMessage, Response, Sent, Succeeded};
 use super::value::{Map, Value};
 use super::{fault, AwsService, Incoming, Reply};
+use crate::action::Action;
 use crate::errors::SqsError;
 use crate::messages::AttributeValue;
 use crate::texts::{is_of_xml, is_xml_character};

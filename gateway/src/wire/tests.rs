@@ -3,9 +3,10 @@
 use proptest::prelude::*;
 use serde::Deserialize;
 
-use super::requests::{Action, Request, Sending};
+use super::requests::{Request, Sending};
 use super::responses::{ReceivedMessage, Response};
 use super::{Incoming, Protocol};
+use crate::action::Action;
 use crate::errors::SqsError;
 use crate::messages::MessageAttributes;
 use crate::policy::Permission;

@@ -5,8 +5,8 @@ use std::fs;
 use super::{keys, signed, signed_at, Written, KEY};
 use crate::access::file::{parse, Fault};
 use crate::access::{Identity, Keys};
+use crate::action::Action;
 use crate::texts::QueueName;
-use crate::wire::requests::Action;
 
 fn row(more: &str) -> String {
     format!("{KEY}{more}\n")
