@@ -4,14 +4,10 @@
 //! The store hands messages out in the order of their sends, and hides what it hands out. So what stands before a message
 //! that is due is hidden for long, and given back when it is due itself.
 
-use std::collections::{BTreeMap, HashMap};
-use std::sync::{Arc, Mutex, MutexGuard, PoisonError, Weak};
+use std::collections::HashMap;
+use std::sync::Arc;
 
-use tokio::sync::Notify;
-
-use crate::clock::{Clock, Moment};
 use crate::errors::SqsError;
-use crate::handles::Mark;
 use crate::moves::{move_due, show_again};
 use crate::queues::ask::Handed;
 use crate::queues::Queue;
@@ -28,60 +24,6 @@ const PAUSE: u64 = 1000;
 
 /// What is handed out before it is due is hidden for so many seconds: as long as can be.
 const HIDDEN: u32 = 43_200;
-
-/// When messages are due, and of which queues: the first of each.
-#[derive(Default)]
-pub struct Alarms {
-    /// By their moments, and by the marks of the queues.
-    alarms: Mutex<BTreeMap<(Moment, Mark), Weak<Queue>>>,
-    /// Told when one is set that is before all others.
-    earlier: Notify,
-}
-
-impl Alarms {
-    fn alarms(&self) -> MutexGuard<'_, BTreeMap<(Moment, Mark), Weak<Queue>>> {
-        self.alarms.lock().unwrap_or_else(PoisonError::into_inner)
-    }
-
-    /// Sets the alarm for the first delayed message of the queue, if none before it is set.
-    pub fn set_next(&self, queue: &Arc<Queue>) {
-        let next = queue.state().next_alarm();
-        if let Some(moment) = next {
-            self.set(moment, queue);
-        }
-    }
-
-    fn set(&self, moment: Moment, queue: &Arc<Queue>) {
-        let mut alarms = self.alarms();
-        alarms.insert((moment, queue.mark), Arc::downgrade(queue));
-        if alarms.keys().next() == Some(&(moment, queue.mark)) {
-            self.earlier.notify_one();
-        }
-    }
-
-    /// Takes out what has come by now, and tells the queues that are there still.
-    fn take(&self, now: Moment) -> Vec<Arc<Queue>> {
-        let mut alarms = self.alarms();
-        let later = alarms.split_off(&(now + 1, Mark(0)));
-        let come = std::mem::replace(&mut *alarms, later);
-        let queues = come.into_values().filter_map(|queue| queue.upgrade()).map(|queue| (queue.mark, queue));
-        queues.collect::<HashMap<_, _>>().into_values().collect()
-    }
-
-    async fn wait(&self, clock: &Clock) {
-        let comes = async {
-            let first = self.alarms().keys().next().map(|(moment, _)| *moment);
-            match first {
-                Some(first) => clock.wait_until(first).await,
-                None => std::future::pending().await,
-            }
-        };
-        tokio::select! {
-            () = comes => {}
-            () = self.earlier.notified() => {}
-        }
-    }
-}
 
 /// Moves messages when they are due, for as long as the gateway serves.
 pub async fn keep_moving(store: Store) {

@@ -1,7 +1,8 @@
-//! The receipt handles that clients see.
+//! The receipt handles that clients see, and the marks of queues that stand in them.
 
 use std::hash::Hasher;
 
+use serde::{Deserialize, Serialize};
 use siphasher::sip::SipHasher24;
 use uuid::Uuid;
 
@@ -11,6 +12,13 @@ use crate::store_bytes::Receipt;
 /// The mark of a queue: random, and another one for each creation of a name.
 #[derive(Clone, Copy, Debug, PartialEq, Eq, Hash, PartialOrd, Ord)]
 pub struct Mark(pub u64);
+
+/// Which message a copy is of: the mark of its queue, and its sequence number there.
+#[derive(Clone, Copy, Debug, PartialEq, Eq, Hash, Serialize, Deserialize)]
+pub struct Origin {
+    pub mark: u64,
+    pub sequence: u64,
+}
 
 /// What a handle says: which queue, which handing, and when it was, in milliseconds.
 ///

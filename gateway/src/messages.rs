@@ -9,8 +9,7 @@ use uuid::Uuid;
 
 use crate::clock::Moment;
 use crate::errors::SqsError;
-use crate::handles::Mark;
-use crate::moves::Origin;
+use crate::handles::{Mark, Origin};
 use crate::texts::{is_xml_character, test_characters, Body, DedupId, GroupId, QueueName, STORE_LIMIT};
 
 /// The one message system attribute that a send may carry (API Reference, SendMessage, `MessageSystemAttributes`).

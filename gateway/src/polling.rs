@@ -1,98 +1,38 @@
 //! Long polls: who waits at a queue for a message, in order of arrival.
 
-use std::collections::VecDeque;
-use std::sync::{Arc, Mutex, MutexGuard, PoisonError};
+use std::sync::Arc;
 use std::time::Duration;
 
 use tokio::sync::oneshot;
 use tokio::time::Instant;
 
-use crate::budget::Share;
 use crate::deliveries::{ask_all, see_to, Seen};
 use crate::ending::Ending;
 use crate::errors::SqsError;
 use crate::presence::Presence;
-use crate::queues::ask::{Ask, Handed, Outcome};
+use crate::queues::ask::{Ask, Outcome};
+use crate::queues::waiting::{AnswerMemory, Poll, PollResult, Room};
 use crate::queues::Queue;
 use crate::store::Store;
 
-type PollResult = Result<Vec<Handed>, SqsError>;
-
-/// For how many bytes of an answer there is room where it goes; as many as can be where nothing is said of that.
-#[derive(Clone, Copy)]
-pub struct Room(pub Option<usize>);
-
-impl Room {
-    /// Refuses a receive of so many messages before it is handed any, where its answer may not find room.
-    pub fn test(self, queue: &Queue, size: u8) -> Result<(), SqsError> {
-        let Some(room) = self.0 else { return Ok(()) };
-        let needed = queue.state().most_answered(size);
-        (needed <= room).then_some(()).ok_or(SqsError::NeedsRoom(needed))
-    }
+/// Refuses a receive of so many messages before it is handed any, where its answer may not find room.
+pub fn test_room(room: Room, queue: &Queue, size: u8) -> Result<(), SqsError> {
+    let Room(Some(room)) = room else { return Ok(()) };
+    let needed = queue.state().most_answered(size);
+    (needed <= room).then_some(()).ok_or(SqsError::NeedsRoom(needed))
 }
 
-/// What a receive keeps of the memory of requests. While it waits that is the request alone.
-pub struct AnswerMemory {
-    pub share: Arc<Share>,
-    /// In bytes.
-    pub request: usize,
+/// Takes what the answer to a receive of so many messages may keep. False if that isn't there, and then it has what it had.
+fn take_memory(memory: &AnswerMemory, queue: &Queue, size: u8) -> bool {
+    memory.share.try_set(memory.request + queue.state().most_handed(size))
 }
 
-impl AnswerMemory {
-    /// Takes what the answer to a receive of so many messages may keep. False if that isn't there, and then it has what it had.
-    fn take(&self, queue: &Queue, size: u8) -> bool {
-        self.share.try_set(self.request + queue.state().most_handed(size))
+/// How many messages a poll asks for at most; none where it asks for something else.
+fn size_wanted(poll: &Poll) -> Option<u8> {
+    match &poll.ask {
+        Ask::Receive { size, .. } => Some(*size),
+        _ => None,
     }
-
-    fn give_back(&self) {
-        self.share.set(self.request);
-    }
-}
-
-/// A receive that waits.
-struct Poll {
-    number: u64,
-    ask: Ask,
-    room: Room,
-    memory: AnswerMemory,
-    presence: Presence,
-    deadline: Instant,
-    done: oneshot::Sender<PollResult>,
-}
-
-impl Poll {
-    /// Refuses it where its answer may not find room.
-    fn test_room(&self, queue: &Queue) -> Result<(), SqsError> {
-        match &self.ask {
-            Ask::Receive { size, .. } => self.room.test(queue, *size),
-            _ => Ok(()),
-        }
-    }
-
-    /// Takes the memory that its answer may keep. False if that isn't there.
-    fn takes_memory(&self, queue: &Queue) -> bool {
-        match &self.ask {
-            Ask::Receive { size, .. } => self.memory.take(queue, *size),
-            _ => true,
-        }
-    }
-
-    /// Nobody is there any more who could be handed anything.
-    fn is_gone(&self) -> bool {
-        self.done.is_closed() || self.presence.is_gone()
-    }
-}
-
-/// Those who wait at one queue.
-#[derive(Default)]
-pub struct Polls(Mutex<WaitingPolls>);
-
-#[derive(Default)]
-struct WaitingPolls {
-    polls: VecDeque<Poll>,
-    last_number: u64,
-    /// A task serves them.
-    is_served: bool,
 }
 
 /// How long somebody waits, and who it is.
@@ -117,56 +57,6 @@ const LOOK_FOR_MEMORY: Duration = Duration::from_millis(100);
 /// How long a served queue whose polls have all gone is watched at most before the task looks again.
 const LONGEST_WATCH: Duration = Duration::from_secs(20);
 
-impl Polls {
-    fn waiting(&self) -> MutexGuard<'_, WaitingPolls> {
-        self.0.lock().unwrap_or_else(PoisonError::into_inner)
-    }
-
-    /// Takes out a poll that isn't being tried.
-    fn withdraw(&self, number: u64) -> bool {
-        let mut waiting = self.waiting();
-        let place = waiting.polls.iter().position(|poll| poll.number == number);
-        place.map(|place| waiting.polls.remove(place)).is_some()
-    }
-
-    /// Takes the first polls, to try them. Those of them whose clients have gone without anybody's notice are answered with nothing.
-    fn take(&self, count: u64) -> Vec<Poll> {
-        let mut waiting = self.waiting();
-        waiting.polls.retain(|poll| !poll.is_gone());
-        let mut taken = Vec::new();
-        while (taken.len() as u64) < count {
-            let Some(poll) = waiting.polls.pop_front() else { break };
-            if poll.presence.has_left() {
-                let _ = poll.done.send(Ok(Vec::new()));
-            } else {
-                taken.push(poll);
-            }
-        }
-        taken
-    }
-
-    fn put_back(&self, poll: Poll) {
-        poll.memory.give_back();
-        self.waiting().polls.push_front(poll);
-    }
-
-    /// Answers all who wait with nothing.
-    fn let_go(&self) {
-        let polls = std::mem::take(&mut self.waiting().polls);
-        for poll in polls {
-            let _ = poll.done.send(Ok(Vec::new()));
-        }
-    }
-
-    /// Whether anybody is left. If nobody is, the task that serves them ends.
-    fn goes_on(&self) -> bool {
-        let mut waiting = self.waiting();
-        waiting.polls.retain(|poll| !poll.is_gone());
-        waiting.is_served = !waiting.polls.is_empty();
-        waiting.is_served
-    }
-}
-
 /// Waits at a queue for messages, and tells those that came, or none when the time is up or nobody is there any more.
 ///
 /// `seen` is how many openings the receive had seen that came back empty. A queue that is removed meanwhile is
@@ -178,17 +68,10 @@ pub async fn wait(store: &Store, queue: &Arc<Queue>, ask: Ask, waiter: Waiter, s
     }
     let (done, mut found) = oneshot::channel();
     let (deadline, caller) = (Instant::now() + time, presence.clone());
-    let number = {
-        let mut waiting = queue.polls.waiting();
-        waiting.last_number += 1;
-        let number = waiting.last_number;
-        waiting.polls.push_back(Poll { number, ask, room, memory, presence, deadline, done });
-        if !waiting.is_served {
-            waiting.is_served = true;
-            tokio::spawn(serve(store.clone(), queue.clone(), ending));
-        }
-        number
-    };
+    let (number, is_first) = queue.polls.add(Poll { number: 0, ask, room, memory, presence, deadline, done });
+    if is_first {
+        tokio::spawn(serve(store.clone(), queue.clone(), ending));
+    }
     if queue.state().openings != seen {
         queue.opened.notify_one();
     }
@@ -257,7 +140,7 @@ async fn wait_for_opening(store: &Store, queue: &Queue) {
 fn with_room(queue: &Queue, polls: Vec<Poll>) -> Vec<Poll> {
     let mut fitting = Vec::with_capacity(polls.len());
     for poll in polls {
-        match poll.test_room(queue) {
+        match size_wanted(&poll).map_or(Ok(()), |size| test_room(poll.room, queue, size)) {
             Ok(()) => fitting.push(poll),
             Err(error) => drop(poll.done.send(Err(error))),
         }
@@ -270,7 +153,7 @@ fn with_room(queue: &Queue, polls: Vec<Poll>) -> Vec<Poll> {
 fn with_memory(queue: &Queue, polls: Vec<Poll>) -> (Vec<Poll>, bool) {
     let (mut fitting, mut others) = (Vec::with_capacity(polls.len()), Vec::new());
     for poll in polls {
-        if others.is_empty() && poll.takes_memory(queue) {
+        if others.is_empty() && size_wanted(&poll).map_or(true, |size| take_memory(&poll.memory, queue, size)) {
             fitting.push(poll);
         } else {
             others.push(poll);

@@ -11,8 +11,9 @@ use crate::errors::SqsError;
 use crate::handles::Handle;
 use crate::messages::{EnvelopeBody, MessageAttributes, Metadata};
 use crate::parts;
-use crate::polling::{self, AnswerMemory, Room, Waiter};
+use crate::polling::{self, Waiter};
 use crate::queues::ask::{Ask, Changer, Handed, Reach};
+use crate::queues::waiting::{AnswerMemory, Room};
 use crate::queues::Queue;
 use crate::texts::{QueueKind, QueueName};
 use crate::wire::requests::{Receive, Shown, SystemAttribute};
@@ -37,7 +38,7 @@ impl Actions {
         let visibility = receive.visibility.unwrap_or(own_visibility);
         let wait = u64::from(receive.wait.unwrap_or(own_wait));
         let room = Room(caller.room);
-        room.test(&queue, receive.size)?;
+        polling::test_room(room, &queue, receive.size)?;
         let request_bytes = receive.shown.bytes_kept();
         if !caller.share.try_set(request_bytes + queue.state().most_handed(receive.size)) {
             return Err(SqsError::ServiceUnavailable("Too many requests are being served.".into()));

@@ -10,9 +10,9 @@ use uuid::Uuid;
 use super::book::Entry;
 use crate::attributes::GivenAttributes;
 use crate::clock::Moment;
+use crate::handles::Origin;
 use crate::messages::{read_envelope, Envelope};
-use crate::move_tasks::MoveTask;
-use crate::moves::Origin;
+use crate::queues::tasks::MoveTask;
 use crate::store_bytes::Receipt;
 use crate::texts::{AttemptId, DedupId, GroupId};
 

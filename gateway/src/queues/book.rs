@@ -12,7 +12,7 @@ use super::ask::StoreName;
 use crate::attributes::QueueAttributes;
 use crate::clock::Moment;
 use crate::limits::{MESSAGE_BYTES, STORED_MESSAGE_BYTES};
-use crate::move_tasks::MoveTask;
+use crate::queues::tasks::MoveTask;
 use crate::texts::{AttemptId, QueueName};
 
 /// What an entry says.

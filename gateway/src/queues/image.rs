@@ -16,9 +16,10 @@ use super::groups::Group;
 use super::shards::Shard;
 use super::{Queue, Queues};
 use crate::clock::Moment;
+use crate::handles::Origin;
 use crate::messages::EnvelopeHead;
-use crate::move_tasks::MoveTask;
-use crate::moves::{CopyId, Origin};
+use crate::queues::copies::CopyId;
+use crate::queues::tasks::MoveTask;
 use crate::store_bytes::{Fault, Part, QueuePart, Receipt, StoreReader};
 use crate::texts::{fingerprint_of, AttemptId, CallKey};
 

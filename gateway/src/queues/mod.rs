@@ -1,15 +1,20 @@
 //! The tables: what the gateway keeps of each queue that lives. They follow the answers of the store.
 
+pub mod alarms;
 pub mod ask;
 pub mod book;
+pub mod copies;
 mod groups;
 mod image;
+pub mod jumps;
 mod names;
 mod parts;
 pub mod shards;
 mod state;
+pub mod tasks;
 #[cfg(test)]
 mod tests;
+pub mod waiting;
 mod written;
 
 use std::collections::{BTreeMap, HashMap};
@@ -20,23 +25,23 @@ use tokio::sync::Notify;
 use uuid::Uuid;
 
 use crate::clock::Moment;
-use crate::delays::Alarms;
 use crate::errors::SqsError;
-use crate::handles::{Handle, HandleKey, Mark};
+use crate::handles::{Handle, HandleKey, Mark, Origin};
 use crate::limits::STORED_NAME_BYTES;
 use crate::messages::{message_id, own_id};
-use crate::moves::{Copies, Origin};
-use crate::polling::Polls;
-use crate::retention::Jumps;
 use crate::store_bytes::{Receipt, StoreReply};
 use crate::texts::{QueueKind, QueueName};
+use alarms::Alarms;
 use ask::{Ask, Cause, Outcome, StoreName, TableChange};
 use book::{size_of_text, Books, Entry, LeftOver, ProgramEntry, QueueEntry, Removal};
+use copies::Copies;
 pub use image::{Image, ImageError};
+use jumps::Jumps;
 use names::{InUse, Names};
 pub use parts::Parts;
 use shards::{Shard, Shards};
 pub use state::{Chunk, Cursor, Peeked, State, Visibility};
+use waiting::Polls;
 
 /// So long a name isn't free after its queue was removed, in milliseconds
 /// (API Reference, CreateQueue, `QueueDeletedRecently`).

@@ -13,7 +13,7 @@ use super::State;
 use crate::attributes::{GivenAttributes, QueueAttributes};
 use crate::clock::Moment;
 use crate::messages::Envelope;
-use crate::retention::Jumps;
+use crate::queues::jumps::Jumps;
 use crate::seeded::check;
 use crate::store_bytes::{Delivery, Receipt, StoreReply};
 use crate::texts::{DedupId, GroupId, QueueKind, QueueName};

@@ -126,8 +126,8 @@ mod tests {
     use std::collections::BTreeMap;
 
     use super::*;
+    use crate::handles::Origin;
     use crate::messages::Envelope;
-    use crate::moves::Origin;
     use crate::queues::ask::{Reach, StoreName};
     use crate::queues::book::QueueEntry;
     use crate::texts::{DedupId, GroupId, QueueName};

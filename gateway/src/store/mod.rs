@@ -585,8 +585,8 @@ type Holds = std::collections::HashMap<Mark, Hold>;
 #[cfg(test)]
 mod tests {
     use super::*;
+    use crate::handles::Origin;
     use crate::messages::Envelope;
-    use crate::moves::Origin;
     use crate::texts::{DedupId, GroupId};
 
     #[test]

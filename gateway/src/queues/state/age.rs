@@ -2,7 +2,7 @@
 
 use super::State;
 use crate::clock::Moment;
-use crate::retention::Jumps;
+use crate::queues::jumps::Jumps;
 
 impl State {
     pub(super) fn horizon(&self, jumps: &Jumps, now: Moment) -> Option<Moment> {

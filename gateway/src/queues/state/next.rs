@@ -6,7 +6,7 @@ use super::message::Message;
 use super::State;
 use crate::clock::Moment;
 use crate::queues::groups::Groups;
-use crate::retention::Jumps;
+use crate::queues::jumps::Jumps;
 use crate::texts::{QueueKind, QueueName};
 
 /// So long groups are kept that nobody needs, in milliseconds.

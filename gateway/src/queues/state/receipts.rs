@@ -6,7 +6,7 @@ use crate::clock::Moment;
 use crate::errors::SqsError;
 use crate::handles::Handle;
 use crate::queues::ask::Fate;
-use crate::retention::Jumps;
+use crate::queues::jumps::Jumps;
 use crate::store_bytes::Receipt;
 
 impl State {

@@ -6,9 +6,9 @@ use super::{delay_of_all, State};
 use crate::attributes::QueueAttributes;
 use crate::clock::Moment;
 use crate::limits::QUEUE_BYTES;
-use crate::move_tasks::{self, MoveTask};
 use crate::queues::ask::TableChange;
 use crate::queues::book::{Entry, Purging, QueueEntry, Removal};
+use crate::queues::tasks::{self, MoveTask};
 
 /// What an entry changed.
 #[derive(Clone, Copy, Debug, Default, PartialEq, Eq)]
@@ -48,7 +48,7 @@ impl State {
             TableChange::Purged => (entry.purged, entry.purging) = (Some(moment), None),
             // What is said last counts, also where nothing before it stands there any more.
             TableChange::Task(task) => {
-                return Some(Entry::Task(entry.mark, move_tasks::merged(&self.tasks, task)));
+                return Some(Entry::Task(entry.mark, tasks::merged(&self.tasks, task)));
             }
             TableChange::Removed => {
                 return Some(Entry::Removed(Removal { name: entry.name, mark: entry.mark, at: moment }));
@@ -80,7 +80,7 @@ impl State {
 
     /// The book of this number says how a task stands, by an entry of this size.
     pub fn said_of_task(&mut self, task: &MoveTask, book: u64, size: u64) {
-        move_tasks::merge(&mut self.tasks, task);
+        tasks::merge(&mut self.tasks, task);
         self.tasks_said_in.insert(task.id, (book, size));
         let tasks = &self.tasks;
         self.tasks_said_in.retain(|id, _| tasks.iter().any(|task| task.id == *id));

@@ -11,13 +11,13 @@ use super::recent::RecentSend;
 use super::{State, WINDOW};
 use crate::clock::Moment;
 use crate::handles::Mark;
+use crate::handles::Origin;
 use crate::messages::message_id;
-#[cfg(test)]
-use crate::move_tasks::MoveTask;
-use crate::moves::Origin;
 use crate::queues::ask::Handed;
 use crate::queues::book::AttemptEntry;
 use crate::queues::image::{AcceptedSend, Named, StoredMessage, StoredQueue};
+#[cfg(test)]
+use crate::queues::tasks::MoveTask;
 use crate::store_bytes::Receipt;
 use crate::texts::{AttemptId, CallKey, QueueKind};
 
