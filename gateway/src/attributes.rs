@@ -2,12 +2,13 @@
 
 use std::collections::{BTreeMap, BTreeSet};
 
+use hobbychair_bytes::characters::is_of_xml;
 use serde::{Deserialize, Serialize};
 
 use crate::errors::SqsError;
 use crate::policy::Policy;
 use crate::redrive::{RedriveAllowPolicy, RedrivePolicy, REDRIVE_ALLOW_POLICY, REDRIVE_POLICY};
-use crate::texts::{is_of_xml, QueueKind};
+use crate::texts::QueueKind;
 
 /// The largest `MaximumMessageSize`, which is its default as well, in bytes. A batch has at most as many in all.
 pub const LONGEST_MESSAGE: usize = 1_048_576;

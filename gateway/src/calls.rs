@@ -7,7 +7,7 @@ use std::io;
 use std::time::Duration;
 
 use bytes::Bytes;
-use hobbychair_cluster::parts::{append_frame, Malformed, Parts, Reader};
+use hobbychair_bytes::parts::{append_frame, Malformed, Parts, Reader};
 use hyper::header::{HeaderMap, HeaderName, HeaderValue};
 use hyper::http::uri::PathAndQuery;
 use hyper::{Method, StatusCode};

@@ -4,10 +4,8 @@ use std::path::{Path, PathBuf};
 use std::sync::atomic::{AtomicI64, AtomicU64, Ordering};
 use std::time::{Duration, SystemTime, UNIX_EPOCH};
 
+use hobbychair_bytes::moment::Moment;
 use rustix::time::{clock_gettime, clock_gettime_dynamic, ClockId, DynamicClockId};
-
-/// A moment, in milliseconds since 1970.
-pub type Moment = u64;
 
 /// The wall clock at the start, or the journal's last clock if that is later; from then on the clock that also counts
 /// while the machine is suspended. A wall clock that jumps isn't believed.

@@ -7,6 +7,7 @@ use std::path::{Path, PathBuf};
 use anyhow::{anyhow, Context, Result};
 use clap::{Args, CommandFactory, Parser, Subcommand};
 use clap_complete::Shell;
+use hobbychair_bytes::characters::escaped;
 use hobbychair_cluster::command_line as cluster;
 
 use crate::answers;
@@ -97,7 +98,7 @@ pub fn main() -> i32 {
         }
         Err(error) => {
             let is_broken_pipe = error.downcast_ref::<io::Error>().map(io::Error::kind);
-            let said = log::escaped(&format!("hobbychair: {error:#}"));
+            let said = escaped(&format!("hobbychair: {error:#}"));
             log::end((is_broken_pipe != Some(io::ErrorKind::BrokenPipe)).then_some(&said));
             if error.is::<Misuse>() {
                 2

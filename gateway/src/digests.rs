@@ -1,9 +1,9 @@
 //! The MD5s that clients compare.
 
+use hobbychair_bytes::digits::hex;
 use md5::{Digest, Md5};
 
 use crate::messages::MessageAttributes;
-use crate::texts::hex;
 
 /// `MD5OfBody` and `MD5OfMessageBody`: over the bytes of UTF-8, in hex.
 pub fn md5_of_text(text: &str) -> String {

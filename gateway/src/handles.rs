@@ -2,12 +2,12 @@
 
 use std::hash::Hasher;
 
+use hobbychair_bytes::values::Receipt;
 use serde::{Deserialize, Serialize};
 use siphasher::sip::SipHasher24;
 use uuid::Uuid;
 
 use crate::errors::SqsError;
-use crate::store_bytes::Receipt;
 
 /// The mark of a queue: random, and another one for each creation of a name.
 #[derive(Clone, Copy, Debug, PartialEq, Eq, Hash, PartialOrd, Ord)]
@@ -107,7 +107,7 @@ impl Handle {
 mod tests {
     use super::*;
 
-    use crate::seeded::{check, edits, spoilt};
+    use hobbychair_bytes::seeded::{check, edits, spoilt};
 
     const KEY: HandleKey = HandleKey([7; 16]);
     const RECEIPT: Receipt = Receipt { incarnation: 4, sequence: 7, ordinal: 2 };

@@ -476,35 +476,20 @@ fn network(kind: u64) -> Option<&'static str> {
 }
 
 #[cfg(test)]
-pub mod tests {
+mod tests {
     use super::*;
 
-    /// A folder that goes with this.
-    pub struct Room(pub PathBuf);
+    use hobbychair_bytes::room::Room;
 
-    impl Room {
-        pub fn new(name: &str) -> Room {
-            let path = std::env::temp_dir().join(format!("hobbychair-{name}-{}", std::process::id()));
-            std::fs::create_dir_all(&path).unwrap();
-            Room(path)
-        }
-
-        fn names(&self) -> Vec<String> {
-            let entries = std::fs::read_dir(&self.0).unwrap();
-            let mut names: Vec<_> = entries.map(|entry| entry.unwrap().file_name().into_string().unwrap()).collect();
-            names.sort_unstable();
-            names
-        }
-
-        fn put(&self, name: &str, text: &[u8]) {
-            std::fs::write(self.0.join(name), text).unwrap();
-        }
+    fn names_in(room: &Room) -> Vec<String> {
+        let entries = std::fs::read_dir(&room.0).unwrap();
+        let mut names: Vec<_> = entries.map(|entry| entry.unwrap().file_name().into_string().unwrap()).collect();
+        names.sort_unstable();
+        names
     }
 
-    impl Drop for Room {
-        fn drop(&mut self) {
-            let _ = std::fs::remove_dir_all(&self.0);
-        }
+    fn put(room: &Room, name: &str, text: &[u8]) {
+        std::fs::write(room.0.join(name), text).unwrap();
     }
 
     fn files(room: &Room, count: u32) -> Files {
@@ -516,14 +501,14 @@ pub mod tests {
         let room = Room::new("there");
         let files = files(&room, 3);
         assert_eq!(files.is_there(), Ok(false));
-        (1..=3).for_each(|number| room.put(&format!("j.cq{number}.new"), b"new"));
-        assert_eq!((files.is_there(), room.names().len()), (Ok(false), 0), "its making was cut off");
-        (2..=3).for_each(|number| room.put(&format!("j.cq{number}"), b"named"));
-        room.put("j.cq1.new", b"not yet");
-        assert_eq!((files.is_there(), room.names().len()), (Ok(false), 0), "so was this");
-        (1..=3).for_each(|number| room.put(&format!("j.cq{number}.new"), number.to_string().as_bytes()));
+        (1..=3).for_each(|number| put(&room, &format!("j.cq{number}.new"), b"new"));
+        assert_eq!((files.is_there(), names_in(&room).len()), (Ok(false), 0), "its making was cut off");
+        (2..=3).for_each(|number| put(&room, &format!("j.cq{number}"), b"named"));
+        put(&room, "j.cq1.new", b"not yet");
+        assert_eq!((files.is_there(), names_in(&room).len()), (Ok(false), 0), "so was this");
+        (1..=3).for_each(|number| put(&room, &format!("j.cq{number}.new"), number.to_string().as_bytes()));
         files.publish().unwrap();
-        assert_eq!(room.names(), ["j.cq1", "j.cq2", "j.cq3"]);
+        assert_eq!(names_in(&room), ["j.cq1", "j.cq2", "j.cq3"]);
         assert_eq!(std::fs::read(room.0.join("j.cq2")).unwrap(), b"2");
         assert_eq!(files.is_there(), Ok(true));
     }
@@ -545,50 +530,50 @@ pub mod tests {
         ];
         for name in names.map(|suffix| format!("j.{suffix}")) {
             let room = Room::new("earlier");
-            room.put(&name, b"kept");
+            put(&room, &name, b"kept");
             let refused = JournalError::Earlier(room.0.join(&name).display().to_string());
             assert_eq!(test_path(&room.0.join("j")), Err(refused));
-            assert_eq!(room.names(), [name]);
+            assert_eq!(names_in(&room), [name]);
         }
         let room = Room::new("other");
-        room.put("j", b"hobbychair journal 1\n..");
+        put(&room, "j", b"hobbychair journal 1\n..");
         assert!(matches!(test_path(&room.0.join("j")), Err(JournalError::Earlier(_))));
-        room.put("j", b"Dear Sir or Madam");
+        put(&room, "j", b"Dear Sir or Madam");
         assert!(matches!(test_path(&room.0.join("j")), Err(JournalError::NoJournal(_))));
-        assert_eq!(room.names(), ["j"]);
+        assert_eq!(names_in(&room), ["j"]);
     }
 
     #[test]
     fn names_beside_a_journal_that_no_earlier_build_kept_are_passed_over() {
         let room = Room::new("beside");
         for name in ["j.cq1", "j.old.cq1", "j.old.1", "j.version1", "j.cq1.new", "j.log", "j2.1", "j.1.gz", "j.lines"] {
-            room.put(name, b"kept");
+            put(&room, name, b"kept");
         }
         assert_eq!(test_path(&room.0.join("j")), Ok(()));
         std::fs::remove_file(room.0.join("j.cq1")).unwrap();
         assert!(matches!(test_path(&room.0.join("j")), Err(JournalError::Earlier(_))));
         ["j.old.cq1", "j.old.1", "j.version1"].iter().for_each(|name| std::fs::remove_file(room.0.join(name)).unwrap());
-        ["j.old.gz", "j.older.1", "j.version1.txt", "j.cqx.lines"].iter().for_each(|name| room.put(name, b"kept"));
+        ["j.old.gz", "j.older.1", "j.version1.txt", "j.cqx.lines"].iter().for_each(|name| put(&room, name, b"kept"));
         assert_eq!(test_path(&room.0.join("j")), Ok(()));
     }
 
     #[test]
     fn a_file_that_is_missing_or_one_too_many_is_told() {
         let room = Room::new("missing");
-        (1..=3).for_each(|number| room.put(&format!("j.cq{number}"), b""));
+        (1..=3).for_each(|number| put(&room, &format!("j.cq{number}"), b""));
         let name = |number| room.0.join(format!("j.cq{number}")).display().to_string();
         assert_eq!(files(&room, 4).is_there(), Err(JournalError::Missing(name(4))));
         assert_eq!(files(&room, 2).is_there(), Err(JournalError::OtherShards(name(3), 2)));
         std::fs::remove_file(room.0.join("j.cq1")).unwrap();
         assert_eq!(files(&room, 3).is_there(), Err(JournalError::Missing(name(1))));
         (2..=3).for_each(|number| std::fs::remove_file(room.0.join(format!("j.cq{number}"))).unwrap());
-        room.put("j.lock", b"");
+        put(&room, "j.lock", b"");
         assert_eq!(files(&room, 3).is_there(), Ok(false));
-        room.put("j.lock", HAS_REQUESTS.as_bytes());
+        put(&room, "j.lock", HAS_REQUESTS.as_bytes());
         for _ in 0..2 {
             assert_eq!(files(&room, 3).is_there(), Err(lost(&room.0.join("j"))));
             // Whatever this is, it hasn't got the requests.
-            room.put("j.cq1.new", b"new");
+            put(&room, "j.cq1.new", b"new");
         }
     }
 
@@ -616,7 +601,7 @@ pub mod tests {
         let lock = files(&room, 1).lock().unwrap();
         assert_eq!(noted(&room), (false, false));
         for other in ["", "form 0\n", "form 99\n"] {
-            room.put("j.lock", format!("{HAS_REQUESTS}{other}").as_bytes());
+            put(&room, "j.lock", format!("{HAS_REQUESTS}{other}").as_bytes());
             assert_eq!(noted(&room), (true, false), "{other:?}");
             lock.note_requests().unwrap();
             assert_eq!(noted(&room), (true, true));

@@ -6,6 +6,7 @@ use std::sync::mpsc::{channel, sync_channel, Receiver, SyncSender};
 use std::sync::OnceLock;
 use std::time::Duration;
 
+use hobbychair_bytes::characters::push_escaped;
 use tracing_subscriber::fmt::MakeWriter;
 
 /// So many lines wait to be written. What comes then is lost.
@@ -112,38 +113,9 @@ fn one_line(line: &[u8]) -> Vec<u8> {
     one.into_bytes()
 }
 
-/// The text with no control character but line feeds: what a file or a client said may stand in it, and does nothing to a terminal. The
-/// escapes are those of JSON.
-pub fn escaped(text: &str) -> String {
-    let mut escaped = String::with_capacity(text.len());
-    for character in text.chars() {
-        match character {
-            '\n' => escaped.push(character),
-            _ => push_escaped(&mut escaped, character),
-        }
-    }
-    escaped
-}
-
-fn push_escaped(text: &mut String, character: char) {
-    if character.is_control() {
-        text.push_str(&format!("\\u{:04x}", u32::from(character)));
-    } else {
-        text.push(character);
-    }
-}
-
 #[cfg(test)]
 mod tests {
     use super::*;
-
-    #[test]
-    fn a_terminal_is_told_nothing_but_text() {
-        assert_eq!(
-            escaped("unknown field `\x1b[2J\x1b]0;owned\x07é`\nline 2\x7f\u{9b}"),
-            "unknown field `\\u001b[2J\\u001b]0;owned\\u0007é`\nline 2\\u007f\\u009b"
-        );
-    }
 
     #[test]
     fn a_line_stays_one() {

@@ -3,14 +3,16 @@
 use std::collections::BTreeMap;
 use std::sync::Arc;
 
+use hobbychair_bytes::characters::is_xml_character;
+use hobbychair_bytes::moment::Moment;
+use hobbychair_bytes::values::STORE_LIMIT;
 use md5::{Digest, Md5};
 use serde::{Deserialize, Serialize, Serializer};
 use uuid::Uuid;
 
-use crate::clock::Moment;
 use crate::errors::SqsError;
 use crate::handles::{Mark, Origin};
-use crate::texts::{is_xml_character, test_characters, Body, DedupId, GroupId, QueueName, STORE_LIMIT};
+use crate::texts::{test_characters, Body, DedupId, GroupId, QueueName};
 
 /// The one message system attribute that a send may carry (API Reference, SendMessage, `MessageSystemAttributes`).
 pub const TRACE_HEADER: &str = "AWSTraceHeader";

@@ -11,6 +11,9 @@ use std::collections::{HashMap, HashSet};
 use std::sync::Arc;
 use std::time::Duration;
 
+use hobbychair_bytes::digits::hex;
+use hobbychair_bytes::values::Receipt;
+
 use crate::errors::SqsError;
 use crate::handles::Origin;
 use crate::messages::{message_id, EnvelopeHead};
@@ -19,8 +22,7 @@ use crate::queues::ask::{Ask, Cause, Changer, Fate, Handed, PartsCause};
 use crate::queues::copies::CopyId;
 use crate::queues::Queue;
 use crate::store::{Copy, Held, Store};
-use crate::store_bytes::Receipt;
-use crate::texts::{hex, DedupId, GroupId, QueueKind};
+use crate::texts::{DedupId, GroupId, QueueKind};
 
 /// So long a message waits for its next deletion, where one failed after it was copied.
 const PAUSE: Duration = Duration::from_secs(1);

@@ -5,6 +5,7 @@ use std::str::FromStr;
 use std::sync::Arc;
 
 use bytes::Bytes;
+use hobbychair_bytes::values::Receipt;
 use hyper::header::{HeaderMap, HeaderValue, ACCEPT, CONTENT_TYPE};
 use hyper::{Response, StatusCode, Uri};
 use serde_json::{json, Map, Value};
@@ -18,7 +19,6 @@ use crate::parts::{self, Read};
 use crate::queues::ask::Handed;
 use crate::queues::{Chunk, Cursor, Peeked, Queue, Visibility};
 use crate::store::Store;
-use crate::store_bytes::Receipt;
 use crate::texts::QueueName;
 use crate::wire::requests::Shown;
 use crate::wire::responses::ReceivedMessage;

@@ -5,6 +5,7 @@ use std::os::unix::io::RawFd;
 use std::sync::{Arc, Mutex, MutexGuard, PoisonError};
 use std::time::{Duration, Instant};
 
+use hobbychair_bytes::values::Receipt;
 use sha2::{Digest, Sha256};
 use tokio::sync::watch;
 
@@ -12,7 +13,6 @@ use crate::action::Action;
 use crate::clock::Clock;
 use crate::presence::{Presence, Present};
 use crate::queues::Queue;
-use crate::store_bytes::Receipt;
 use crate::wire::Reply;
 
 /// So long an answer is kept.

@@ -3,7 +3,8 @@
 use std::sync::Arc;
 use std::time::Duration;
 
-use crate::clock::Moment;
+use hobbychair_bytes::moment::Moment;
+
 use crate::errors::SqsError;
 use crate::queues::book::Entry;
 use crate::queues::Queue;

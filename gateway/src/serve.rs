@@ -9,6 +9,7 @@ use std::sync::{Arc, OnceLock};
 use std::time::Duration;
 
 use anyhow::{anyhow, bail, Context, Result};
+use hobbychair_bytes::moment::Moment;
 use hobbychair_cluster::identity::{Identity, IdentityFiles, Role};
 use tokio::net::TcpListener;
 use tokio::signal::unix::{signal, Signal, SignalKind};
@@ -19,7 +20,7 @@ use crate::actions::{Actions, Owner, Pauses};
 use crate::admin::{Admin, Health};
 use crate::book;
 use crate::budget::Budget;
-use crate::clock::{Clock, Moment};
+use crate::clock::Clock;
 use crate::config::{Address, DeclaredQueue};
 use crate::cq::{test_built, test_version, Cq};
 use crate::delays;

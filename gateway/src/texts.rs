@@ -5,14 +5,13 @@ use std::fmt;
 use std::hash::BuildHasher;
 use std::sync::{Arc, OnceLock};
 
+use hobbychair_bytes::characters::{is_of_xml, is_short_and_printable};
+use hobbychair_bytes::digits::hex;
 use serde::{Deserialize, Serialize};
 use sha2::{Digest, Sha256};
 use uuid::Uuid;
 
 use crate::errors::SqsError;
-
-/// The longest text that the store takes as a body, in bytes of UTF-8.
-pub const STORE_LIMIT: usize = 262_144;
 
 /// The kinds of queues (Developer Guide, "Amazon SQS queue types").
 #[derive(Clone, Copy, Debug, PartialEq, Eq)]
@@ -87,11 +86,6 @@ impl<'de> Deserialize<'de> for QueueName {
         let text = String::deserialize(deserializer)?;
         QueueName::parse(&text).ok_or_else(|| serde::de::Error::custom("this is no queue's name"))
     }
-}
-
-/// Whether a text has 1 to 128 bytes from `!` to `~`.
-pub fn is_short_and_printable(text: &str) -> bool {
-    (1..=128).contains(&text.len()) && text.bytes().all(|byte| (0x21..=0x7e).contains(&byte))
 }
 
 fn only_printable(parameter: &str) -> SqsError {
@@ -230,39 +224,6 @@ impl Body {
 /// Refuses a text with a character that no message may have. Takes time in proportion to the text.
 pub fn test_characters(text: &str) -> Result<(), SqsError> {
     is_of_xml(text).then_some(()).ok_or(SqsError::InvalidMessageContents)
-}
-
-/// Whether XML can say this text (Extensible Markup Language 1.0, `Char`). Takes time in proportion to it.
-pub fn is_of_xml(text: &str) -> bool {
-    // Most texts are of these bytes alone. To look at all of them takes less time than to look for the first other one.
-    let is_plain = |byte: u8| matches!(byte, b'\t' | b'\n' | b'\r' | 0x20..=0x7f);
-    text.bytes().fold(true, |all, byte| all & is_plain(byte)) || text.chars().all(is_xml_character)
-}
-
-pub fn is_xml_character(character: char) -> bool {
-    matches!(character, '\t' | '\n' | '\r' | ' '..='\u{fffd}' | '\u{10000}'..)
-}
-
-/// The bytes of lower-case hex digits; none where there are others.
-pub fn bytes_of_hex(digits: &str) -> Option<Vec<u8>> {
-    let value = |digit: u8| match digit {
-        b'0'..=b'9' => Some(digit - b'0'),
-        b'a'..=b'f' => Some(digit - b'a' + 10),
-        _ => None,
-    };
-    let pairs = digits.as_bytes().chunks(2);
-    pairs.map(|pair| Some(value(pair[0])? << 4 | value(*pair.get(1)?)?)).collect()
-}
-
-/// Bytes as lower-case hex digits.
-pub fn hex(bytes: &[u8]) -> String {
-    const DIGITS: &[u8; 16] = b"0123456789abcdef";
-    let mut text = String::with_capacity(2 * bytes.len());
-    for byte in bytes {
-        text.push(char::from(DIGITS[usize::from(byte >> 4)]));
-        text.push(char::from(DIGITS[usize::from(byte & 15)]));
-    }
-    text
 }
 
 #[cfg(test)]

@@ -15,8 +15,9 @@ use tokio::sync::mpsc::{unbounded_channel, UnboundedReceiver, UnboundedSender};
 use tokio::sync::oneshot;
 use tokio::time::timeout;
 
-use crate::commands::Response;
-use crate::parts::{Cutter, FRAME_LIMIT};
+use hobbychair_bytes::commands::Response;
+use hobbychair_bytes::parts::{Cutter, FRAME_LIMIT};
+use hobbychair_bytes::processes::end_with_this_process;
 
 /// So much is written at once.
 const MOST_WRITTEN: usize = 1 << 20;
@@ -135,7 +136,7 @@ async fn read_responses(output: &mut ChildStdout, told: &mut impl FnMut(Told)) -
     }
 }
 
-fn other(malformed: crate::parts::Malformed) -> io::Error {
+fn other(malformed: hobbychair_bytes::parts::Malformed) -> io::Error {
     io::Error::new(io::ErrorKind::InvalidData, format!("what it told is no response: {malformed}"))
 }
 
@@ -157,27 +158,11 @@ pub fn said(status: ExitStatus) -> String {
     }
 }
 
-/// The child is ended when this process ends, in whatever way. The system does that when the thread ends that starts the
-/// child: it has to be one that is there until then.
-pub fn end_with_this_process(command: &mut Command) {
-    let this = std::process::id();
-    let set = move || {
-        // SAFETY: neither call touches memory of this process.
-        let (is_set, parent) = unsafe { (libc::prctl(libc::PR_SET_PDEATHSIG, libc::SIGKILL), libc::getppid()) };
-        match is_set {
-            0 if u32::try_from(parent) == Ok(this) => Ok(()),
-            0 => Err(io::ErrorKind::BrokenPipe.into()),
-            _ => Err(io::Error::last_os_error()),
-        }
-    };
-    // SAFETY: what runs between fork and exec takes no locks and no memory.
-    unsafe { command.pre_exec(set) };
-}
-
 #[cfg(test)]
 mod tests {
+    use hobbychair_bytes::parts::frame;
+
     use super::*;
-    use crate::parts::frame;
 
     fn start(script: &str) -> (Child, UnboundedReceiver<Told>) {
         let (tell, told) = unbounded_channel();

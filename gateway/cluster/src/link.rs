@@ -7,13 +7,13 @@ use std::sync::{Arc, Mutex};
 use std::time::Duration;
 
 use bytes::Bytes;
+use hobbychair_bytes::commands::{Message, Place};
+use hobbychair_bytes::parts::{Frames, FRAME_LIMIT};
 use tokio::sync::Notify;
 use tokio::time::{interval, sleep, timeout, MissedTickBehavior};
 
-use crate::commands::{Message, Place};
 use crate::lock;
 use crate::node::{Event, Shared};
-use crate::parts::{Frames, FRAME_LIMIT};
 use crate::records::Registration;
 use crate::transport::{self, Reading, Writing};
 use crate::wire::Frame;

@@ -7,12 +7,12 @@ use std::time::{Duration, Instant};
 
 use anyhow::{bail, Context, Result};
 use bytes::Bytes;
+use hobbychair_bytes::commands::{Command, Party, Place, Response, NO_MEMORY};
 use tokio::sync::mpsc::{unbounded_channel, UnboundedReceiver};
 use tokio::sync::Notify;
 use tokio::time::{sleep, timeout};
 
 use crate::child::{Child, Told};
-use crate::commands::{Command, Party, Place, Response, NO_MEMORY};
 use crate::compaction;
 use crate::condition;
 use crate::contact::Contact;

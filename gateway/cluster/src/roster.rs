@@ -5,7 +5,8 @@
 
 use std::collections::{BTreeMap, BTreeSet};
 
-use crate::commands::Message;
+use hobbychair_bytes::commands::Message;
+
 use crate::records::{Chain, Line};
 
 /// No chain has more members.
@@ -160,10 +161,11 @@ impl Roster {
 
 #[cfg(test)]
 mod tests {
-    use super::*;
-    use crate::parts::{frame, Parts};
-    use crate::records::Piece;
     use bytes::Bytes;
+    use hobbychair_bytes::parts::{frame, Parts};
+
+    use super::*;
+    use crate::records::Piece;
 
     fn take(server: u32, number: u64, kind: u8, about: Option<u32>) -> Line {
         let piece = frame(kind, |out| about.into_iter().for_each(|server| out.number32(server)));

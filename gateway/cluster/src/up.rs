@@ -8,12 +8,12 @@ use std::sync::Arc;
 use std::time::{Duration, Instant};
 
 use anyhow::{bail, Context, Result};
+use hobbychair_bytes::processes::end_with_this_process;
 use tokio::net::TcpStream;
 use tokio::signal::unix::{signal, SignalKind};
 use tokio::time::sleep;
 
 use crate::certificates::{self, Wanted};
-use crate::child::end_with_this_process;
 use crate::identity::{Identity, IdentityFiles, Role};
 use crate::memory::usual_bound;
 use crate::records::Cluster;

@@ -2,9 +2,9 @@
 
 use bytes::Bytes;
 
-use crate::commands::Place;
-use crate::parts::{frame, Malformed, Parts, Reader};
-use crate::pipe::RequestName;
+use hobbychair_bytes::commands::Place;
+use hobbychair_bytes::parts::{frame, Malformed, Parts, Reader};
+use hobbychair_bytes::pipe::RequestName;
 
 /// The first frame of a connection isn't longer: a stranger gets no more memory.
 pub const GREETING_LIMIT: usize = 64 << 10;

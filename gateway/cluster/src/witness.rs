@@ -7,13 +7,13 @@ use std::net::SocketAddr;
 use std::sync::{Arc, Mutex};
 use std::time::{Duration, Instant};
 
+use hobbychair_bytes::parts::Frames;
 use tokio::net::TcpStream;
 use tokio::task::JoinHandle;
 use tokio::time::{interval, sleep, timeout, MissedTickBehavior};
 
 use crate::identity::Identity;
 use crate::lock;
-use crate::parts::Frames;
 use crate::records::Registration;
 use crate::transport::{self, Reading};
 use crate::wire::{About, Frame, GREETING_LIMIT};

@@ -2,6 +2,7 @@
 
 use std::borrow::Cow;
 
+use hobbychair_bytes::digits::hex;
 use hyper::header::HeaderMap;
 use percent_encoding::utf8_percent_encode;
 use sha2::{Digest, Sha256};
@@ -10,7 +11,6 @@ use super::claim::{only, Claim};
 use super::query::{Query, RESERVED};
 use super::Signable;
 use crate::errors::SqsError;
-use crate::texts::hex;
 
 /// What stands for the hash of a body that wasn't signed.
 const UNSIGNED: &str = "UNSIGNED-PAYLOAD";

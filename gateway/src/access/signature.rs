@@ -1,11 +1,11 @@
 //! The signature over a canonical request (IAM User Guide, "Create a signed AWS API request").
 
 use hmac::{Hmac, Mac};
+use hobbychair_bytes::digits::{bytes_of_hex, hex};
 use sha2::{Digest, Sha256};
 
 use super::claim::{Claim, Scope, ALGORITHM};
 use super::file::Secret;
-use crate::texts::{bytes_of_hex, hex};
 
 /// A key that is made of a secret for one day, region and service.
 #[derive(Clone)]

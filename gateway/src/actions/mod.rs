@@ -9,11 +9,10 @@ mod permissions;
 mod queues;
 mod receiving;
 
-pub use receiving::show;
-
 use std::hash::{Hash, Hasher};
 use std::sync::Arc;
 
+use hobbychair_bytes::values::Receipt;
 use tokio::sync::{Mutex, Semaphore};
 use uuid::Uuid;
 
@@ -27,9 +26,9 @@ use crate::move_tasks::Rights;
 use crate::presence::Presence;
 use crate::queues::Queue;
 use crate::store::Store;
-use crate::store_bytes::Receipt;
 use crate::texts::QueueName;
 use crate::wire::{Request, Response};
+pub use receiving::show;
 
 /// Who asks.
 #[derive(Clone)]

@@ -11,13 +11,13 @@ use std::io::Write;
 use std::path::{Path, PathBuf};
 
 use anyhow::{Context, Result};
+use hobbychair_bytes::journal::JournalFile;
+use hobbychair_bytes::moment::Moment;
 use tokio::runtime;
 use tokio::sync::mpsc;
 
-use crate::clock::Moment;
 use crate::cq::{test_built, test_version};
-use crate::inspect::files_there;
-use crate::journal_file::{JournalFile, SERVER};
+use crate::inspect::{files_there, open_journal_file};
 
 /// So many lines of a file may wait for earlier ones of others.
 const AHEAD: usize = 16;
@@ -55,7 +55,7 @@ pub fn dump(program: &str, path: &Path, out: &mut impl Write) -> Result<()> {
 fn open(path: &Path) -> Result<Vec<Source>> {
     let mut sources = Vec::new();
     for (number, path) in (1..).zip(files_there(path)?) {
-        let journal = JournalFile::open(&path, SERVER).with_context(|| path.display().to_string())?;
+        let journal = open_journal_file(&path).with_context(|| path.display().to_string())?;
         sources.push(Source { path, number, journal });
     }
     Ok(sources)

@@ -2,7 +2,7 @@
 
 use std::collections::HashMap;
 
-use crate::store_bytes::{Part, StoreReply, StoreRequest};
+use hobbychair_bytes::values::{Part, StoreReply, StoreRequest};
 
 /// The queues of a store that live, behind the answers so far.
 #[derive(Default)]
@@ -53,7 +53,7 @@ impl Names {
 mod tests {
     use super::*;
 
-    use crate::store_bytes::StoreAsk;
+    use hobbychair_bytes::values::StoreAsk;
 
     #[test]
     fn a_send_goes_to_the_incarnation_that_lives_and_a_repeat_to_that_of_the_first() {

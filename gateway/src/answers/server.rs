@@ -7,20 +7,20 @@ use std::path::PathBuf;
 
 use anyhow::{anyhow, Result};
 use bytes::Bytes;
-use hobbychair_cluster::commands::{append_arrival, Command, Party, Response, NO_MEMORY};
-use hobbychair_cluster::parts::{Cutter, FRAME_LIMIT};
+use hobbychair_bytes::commands::{append_arrival, Command, Party, Response, NO_MEMORY};
+use hobbychair_bytes::journal::{JournalFile, JournalFileError, Kept};
+use hobbychair_bytes::moment::Moment;
+use hobbychair_bytes::parts::{Cutter, FRAME_LIMIT};
+use hobbychair_bytes::values::{BadFrame, Part, StoreAnswer, StoreEntry, StoreReader, StoreReply, StoreRequest};
 use tokio::io::{AsyncReadExt, AsyncWriteExt};
 use tokio::sync::mpsc;
 
 use super::names::Names;
 use super::{Source, Told};
-use crate::clock::Moment;
 use crate::cq::{Cq, CqError};
 use crate::history::line::Line;
 use crate::history::stored::{line_of_chunk, line_of_request, told};
-use crate::journal_file::{JournalFile, JournalFileError, Kept};
 use crate::pipes::{Input, Output};
-use crate::store_bytes::{BadFrame, Part, StoreAnswer, StoreEntry, StoreReader, StoreReply, StoreRequest};
 
 /// So many bytes are written at once, or a little more.
 const BATCH: usize = 64 * 1024;
@@ -104,7 +104,7 @@ impl Giving {
 
     /// The next thing, whose command is appended.
     fn next(&mut self, out: &mut Vec<u8>) -> Result<Option<Given>, JournalFileError> {
-        let given = match self.journal.next()? {
+        let given = match self.journal.next_kept()? {
             None => return Ok(None),
             Some(Kept::Chunk(chunk)) => {
                 out.extend(Command::Load(Bytes::copy_from_slice(&chunk)).frame());

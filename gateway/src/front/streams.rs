@@ -6,8 +6,8 @@ use std::sync::{Arc, Mutex, MutexGuard, PoisonError};
 use std::time::Duration;
 
 use bytes::{Bytes, BytesMut};
+use hobbychair_bytes::parts::Frames;
 use hobbychair_cluster::acting::Acting;
-use hobbychair_cluster::parts::Frames;
 use hobbychair_cluster::transport::{Connector, Stream as Carrier};
 use hyper::client::conn::handshake;
 use hyper::header::{HeaderValue, CONNECTION, UPGRADE};

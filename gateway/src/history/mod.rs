@@ -20,8 +20,8 @@ use std::collections::HashMap;
 use std::io::{BufRead, Write};
 
 use anyhow::Result;
+use hobbychair_bytes::characters::escaped;
 
-use crate::log;
 use crate::misuse::Misuse;
 use finding::{Finding, Judged};
 use line::Line;
@@ -59,7 +59,7 @@ pub fn check(input: impl BufRead, out: &mut impl Write) -> Result<Told> {
             Err(finding) => {
                 told.is_refuted = true;
                 let said = format!("line {number}, {}: {finding}", line.action);
-                writeln!(out, "{}", log::escaped(&said))?;
+                writeln!(out, "{}", escaped(&said))?;
                 return Ok(told);
             }
         }

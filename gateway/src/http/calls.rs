@@ -7,7 +7,7 @@ use std::sync::{Arc, Mutex, MutexGuard, PoisonError};
 use std::time::Duration;
 
 use bytes::Bytes;
-use hobbychair_cluster::parts::Frames;
+use hobbychair_bytes::parts::Frames;
 use hyper::body::HttpBody;
 use hyper::header::{HeaderValue, CONNECTION, UPGRADE};
 use hyper::{Body, Method, Request, Response, StatusCode, Version};

@@ -16,6 +16,7 @@ use std::sync::{Arc, Mutex, PoisonError};
 use std::time::{Duration, SystemTime};
 
 use bytes::Bytes;
+use hobbychair_bytes::moment::Moment;
 use hyper::header::{HeaderMap, HeaderName, HeaderValue, AUTHORIZATION, CONNECTION, CONTENT_TYPE};
 use hyper::http::request::Parts;
 use hyper::upgrade::OnUpgrade;
@@ -27,7 +28,6 @@ use crate::access::{Identity, Keys};
 use crate::action::Action;
 use crate::actions::{Actions, Caller};
 use crate::budget::{Budget, Share};
-use crate::clock::Moment;
 use crate::errors::SqsError;
 use crate::metrics::Metrics;
 use crate::presence::Presence;
@@ -35,7 +35,6 @@ use crate::repeats::{is_repeat, CallFields, CallResult, IdempotencyKey, Lookup, 
 use crate::store::wanted_until;
 use crate::texts::QueueName;
 use crate::wire::{self, Protocol, Reply};
-
 pub use address::{is_of_this_machine, Addresses};
 pub use answers::{in_pieces, to_be_written};
 pub use connections::{listen, shared, test_free, Door};

@@ -5,13 +5,13 @@ use std::path::Path;
 use std::process::{Command, Stdio};
 
 use anyhow::{Context, Result};
+use hobbychair_bytes::values::{Part, StoreReader};
 use serde::Deserialize;
 
 use crate::journal::JournalError;
 use crate::queues::ask::StoreName;
 use crate::queues::book::{form_said_by, Entry, ProgramEntry, FORM};
 use crate::queues::ImageError;
-use crate::store_bytes::{Part, StoreReader};
 
 /// A line of `cq dump` that tells a chunk of a store.
 #[derive(Deserialize)]

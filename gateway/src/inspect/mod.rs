@@ -2,18 +2,20 @@
 
 mod book;
 
+use std::fs::OpenOptions;
 use std::io::Write;
 use std::path::{Path, PathBuf};
 use std::process::{Command, Stdio};
 
 use anyhow::{anyhow, bail, Context, Result};
+use hobbychair_bytes::journal::{JournalFile, JournalFileError, SERVER};
 use serde::Deserialize;
 
+use crate::cq::is_blank;
 use crate::disk::{lack_of_space, taken};
 use crate::journal::{
-    emptied, file_of, files_found, files_of, has_had_requests, has_own_form, lost, test_path, JournalError,
+    emptied, file_of, files_found, files_of, has_had_requests, has_own_form, lost, open_file, test_path, JournalError,
 };
-use crate::journal_file::refuse_other_forms;
 
 /// What `cq verify` says of a file of a server.
 #[derive(Debug, Deserialize)]
@@ -39,6 +41,29 @@ pub fn refuse_other_builds(program: &str, path: &Path) -> Result<()> {
         }
     }
     Ok(())
+}
+
+/// Refuses the files of a journal of which one has another form: that of an earlier build, or of a session, or none at all. What else
+/// is wrong with them is told by their programs.
+fn refuse_other_forms(path: &Path) -> Result<(), JournalError> {
+    for file in files_found(path)? {
+        match open_journal_file(&file) {
+            Err(why @ (JournalFileError::NotAJournal | JournalFileError::OtherJournal)) if !is_emptied(&file) => {
+                return Err(JournalError::OtherForm(file.display().to_string(), why.to_string()));
+            }
+            _ => {}
+        }
+    }
+    Ok(())
+}
+
+fn is_emptied(file: &Path) -> bool {
+    is_blank(file).unwrap_or(true)
+}
+
+/// Opens a server's file of a journal, and reads where its entries begin.
+pub fn open_journal_file(path: &Path) -> Result<JournalFile, JournalFileError> {
+    JournalFile::read(&open_file(path, OpenOptions::new().read(true))?, SERVER)
 }
 
 /// The files of a journal that is there.

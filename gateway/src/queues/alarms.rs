@@ -3,10 +3,11 @@
 use std::collections::{BTreeMap, HashMap};
 use std::sync::{Arc, Mutex, MutexGuard, PoisonError, Weak};
 
+use hobbychair_bytes::moment::Moment;
 use tokio::sync::Notify;
 
 use super::Queue;
-use crate::clock::{Clock, Moment};
+use crate::clock::Clock;
 use crate::handles::Mark;
 
 /// When messages are due, and of which queues: the first of each.

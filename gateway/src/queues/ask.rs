@@ -4,16 +4,16 @@ use std::collections::BTreeMap;
 use std::fmt;
 use std::sync::Arc;
 
+use hobbychair_bytes::moment::Moment;
+use hobbychair_bytes::values::Receipt;
 use serde::{Deserialize, Serialize};
 use uuid::Uuid;
 
 use super::book::Entry;
 use crate::attributes::GivenAttributes;
-use crate::clock::Moment;
 use crate::handles::Origin;
 use crate::messages::{read_envelope, Envelope};
 use crate::queues::tasks::MoveTask;
-use crate::store_bytes::Receipt;
 use crate::texts::{AttemptId, DedupId, GroupId};
 
 /// The name under which a queue stands in the store: a number, and another one each time. Queues that have the parts of

@@ -5,12 +5,12 @@
 use std::collections::{BTreeMap, BTreeSet};
 use std::sync::{Mutex, MutexGuard, PoisonError};
 
+use hobbychair_bytes::moment::Moment;
 use serde::{Deserialize, Serialize};
 use uuid::Uuid;
 
 use super::ask::StoreName;
 use crate::attributes::QueueAttributes;
-use crate::clock::Moment;
 use crate::limits::{MESSAGE_BYTES, STORED_MESSAGE_BYTES};
 use crate::queues::tasks::MoveTask;
 use crate::texts::{AttemptId, QueueName};
@@ -316,8 +316,10 @@ impl LeftOver {
 
 #[cfg(test)]
 mod tests {
+    use hobbychair_bytes::values::STORE_LIMIT;
+
     use super::*;
-    use crate::texts::{QueueKind, STORE_LIMIT};
+    use crate::texts::QueueKind;
 
     #[test]
     fn the_longest_entry_of_a_queue_fits_into_the_store() {

@@ -4,11 +4,11 @@ use std::collections::HashSet;
 use std::sync::{Mutex, MutexGuard, PoisonError};
 
 use hmac::{Hmac, Mac};
+use hobbychair_bytes::digits::{bytes_of_hex, hex};
 use sha2::Sha256;
 use uuid::Uuid;
 
 use crate::handles::Origin;
-use crate::texts::{bytes_of_hex, hex};
 
 /// A deduplication id that says of which message a send is the copy. What makes it known from those of clients is made with
 /// a secret of the program that has the copy.

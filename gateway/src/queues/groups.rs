@@ -6,7 +6,7 @@ use std::collections::{BTreeMap, BTreeSet, HashMap};
 use std::hash::BuildHasher;
 use std::sync::OnceLock;
 
-use crate::clock::Moment;
+use hobbychair_bytes::moment::Moment;
 
 /// What stands for a group's id in the tables: a hash with a key that each process draws. So nobody can look for two groups that are
 /// one here.

@@ -8,6 +8,8 @@ use std::collections::{BTreeMap, HashMap};
 use std::sync::atomic::{AtomicU64, Ordering};
 use std::sync::Arc;
 
+use hobbychair_bytes::moment::Moment;
+use hobbychair_bytes::values::{Fault, Part, QueuePart, Receipt, StoreReader};
 use thiserror::Error;
 
 use super::ask::StoreName;
@@ -15,12 +17,10 @@ use super::book::{form_said_by, size_of_text, AttemptEntry, AttemptRequest, Entr
 use super::groups::Group;
 use super::shards::Shard;
 use super::{Queue, Queues};
-use crate::clock::Moment;
 use crate::handles::Origin;
 use crate::messages::EnvelopeHead;
 use crate::queues::copies::CopyId;
 use crate::queues::tasks::MoveTask;
-use crate::store_bytes::{Fault, Part, QueuePart, Receipt, StoreReader};
 use crate::texts::{fingerprint_of, AttemptId, CallKey};
 
 /// Why there are no tables of a store's bytes.

@@ -2,7 +2,7 @@
 
 use std::sync::{PoisonError, RwLock};
 
-use crate::clock::Moment;
+use hobbychair_bytes::moment::Moment;
 
 /// A start that found the clock far ahead of the last record.
 #[derive(Clone, Copy, Debug, PartialEq, Eq)]

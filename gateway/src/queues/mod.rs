@@ -21,15 +21,15 @@ use std::collections::{BTreeMap, HashMap};
 use std::sync::atomic::{AtomicU64, Ordering};
 use std::sync::{Arc, Mutex, MutexGuard, OnceLock, PoisonError, RwLock, Weak};
 
+use hobbychair_bytes::moment::Moment;
+use hobbychair_bytes::values::{Receipt, StoreReply};
 use tokio::sync::Notify;
 use uuid::Uuid;
 
-use crate::clock::Moment;
 use crate::errors::SqsError;
 use crate::handles::{Handle, HandleKey, Mark, Origin};
 use crate::limits::STORED_NAME_BYTES;
 use crate::messages::{message_id, own_id};
-use crate::store_bytes::{Receipt, StoreReply};
 use crate::texts::{QueueKind, QueueName};
 use alarms::Alarms;
 use ask::{Ask, Cause, Outcome, StoreName, TableChange};

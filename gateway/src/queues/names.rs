@@ -5,10 +5,11 @@ use std::collections::{BTreeMap, HashMap, VecDeque};
 use std::sync::atomic::{AtomicU64, Ordering};
 use std::sync::{Arc, Mutex, MutexGuard, PoisonError, Weak};
 
+use hobbychair_bytes::moment::Moment;
+
 use super::ask::StoreName;
 use super::state::WINDOW;
 use super::REMOVAL_PAUSE;
-use crate::clock::Moment;
 
 /// So long after it went a name isn't used again, in milliseconds: the minute for which the store refuses it, and the five minutes
 /// for which ids count.

@@ -4,14 +4,14 @@
 use std::collections::{BTreeSet, HashMap, HashSet};
 use std::sync::{Mutex, MutexGuard, PoisonError};
 
+use hobbychair_bytes::moment::Moment;
+use hobbychair_bytes::values::StoreReply;
 use tokio::sync::Notify;
 
 use super::ask::{Outcome, PartsAsk};
 use super::shards::Shards;
 use super::REMOVAL_PAUSE;
-use crate::clock::Moment;
 use crate::errors::SqsError;
-use crate::store_bytes::StoreReply;
 
 /// A queue that has parts.
 #[derive(Debug, Default)]
@@ -184,9 +184,10 @@ impl Parts {
 
 #[cfg(test)]
 mod tests {
+    use hobbychair_bytes::values::{Delivery, Receipt};
+
     use super::*;
     use crate::queues::ask::PartsCause;
-    use crate::store_bytes::{Delivery, Receipt};
 
     fn freed(parts: &Parts) -> Vec<u64> {
         let mut freed = parts.take_those_freed();

@@ -1,9 +1,9 @@
 //! What is known of the tasks that move messages out of a dead-letter queue.
 
+use hobbychair_bytes::moment::Moment;
 use serde::{Deserialize, Serialize};
 use uuid::Uuid;
 
-use crate::clock::Moment;
 use crate::texts::QueueName;
 
 /// How a task stands (API Reference, ListMessageMoveTasks, `Status`).

@@ -3,6 +3,9 @@
 use std::collections::BTreeMap;
 use std::collections::BTreeSet;
 
+use hobbychair_bytes::moment::Moment;
+use hobbychair_bytes::seeded::check;
+use hobbychair_bytes::values::{Delivery, Receipt, StoreReply};
 use proptest::prelude::*;
 use proptest::sample::Index;
 use proptest::test_runner::TestCaseResult;
@@ -11,11 +14,8 @@ use super::ask::{Ask, Cause, Changer, Outcome, Reach, StoreName, TableChange};
 use super::book::{Entry, QueueEntry};
 use super::State;
 use crate::attributes::{GivenAttributes, QueueAttributes};
-use crate::clock::Moment;
 use crate::messages::Envelope;
 use crate::queues::jumps::Jumps;
-use crate::seeded::check;
-use crate::store_bytes::{Delivery, Receipt, StoreReply};
 use crate::texts::{DedupId, GroupId, QueueKind, QueueName};
 
 #[derive(Clone, Debug)]

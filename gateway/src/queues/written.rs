@@ -1,8 +1,9 @@
 //! Asks as the store is asked them.
 
+use hobbychair_bytes::digits::hex;
+use hobbychair_bytes::values::StoreAsk;
+
 use super::ask::{Ask, PartsAsk, StoreName};
-use crate::store_bytes::StoreAsk;
-use crate::texts::hex;
 
 /// The group of all parts, and that of all entries of a book.
 const PARTS_GROUP: &str = "parts";
@@ -66,14 +67,14 @@ fn receiving(size: u8, timeout: u32) -> StoreAsk<&'static str> {
 
 #[cfg(test)]
 mod tests {
-    use super::*;
-
     use std::sync::Arc;
 
+    use hobbychair_bytes::values::Receipt;
+
+    use super::*;
     use crate::messages::Envelope;
     use crate::queues::ask::{Cause, Changer, PartsCause, Reach};
     use crate::queues::book::{Entry, ProgramEntry};
-    use crate::store_bytes::Receipt;
     use crate::texts::{DedupId, GroupId};
 
     const QUEUE: StoreName = StoreName(7);

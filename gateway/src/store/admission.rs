@@ -3,7 +3,8 @@
 use std::sync::atomic::{AtomicBool, AtomicU64, Ordering};
 use std::sync::Arc;
 
-use crate::clock::Moment;
+use hobbychair_bytes::moment::Moment;
+
 use crate::errors::SqsError;
 use crate::limits::{Bound, GONE_NAME_BYTES, MESSAGE_BYTES, QUEUE_BYTES};
 use crate::queues::ask::{Ask, Cause, PartsAsk, PartsCause};

@@ -3,8 +3,8 @@
 use std::os::unix::io::AsFd;
 use std::sync::atomic::{AtomicU64, Ordering};
 
-use hobbychair_cluster::parts::{Cutter, Malformed, FRAME_LIMIT};
-use hobbychair_cluster::pipe::{FromGateway, FromNode};
+use hobbychair_bytes::parts::{Cutter, Malformed, FRAME_LIMIT};
+use hobbychair_bytes::pipe::{FromGateway, FromNode};
 use thiserror::Error;
 use tokio::io::{AsyncReadExt, AsyncWriteExt};
 use tokio::net::UnixStream;
@@ -140,7 +140,7 @@ mod tests {
 
     use std::time::Duration;
 
-    use hobbychair_cluster::parts::Frames;
+    use hobbychair_bytes::parts::Frames;
 
     #[tokio::test]
     async fn the_node_is_told_that_the_gateway_works_while_its_tables_are_made() {

@@ -3,10 +3,11 @@
 use std::collections::{BTreeMap, BTreeSet};
 use std::sync::Arc;
 
-use crate::clock::Moment;
+use hobbychair_bytes::moment::Moment;
+use hobbychair_bytes::values::written::{append, chunk};
+use hobbychair_bytes::values::{Delivery, KeptHandings, Part, QueuePart, Receipt, StoreAsk, StoreReply};
+
 use crate::queues::ask::StoreName;
-use crate::store_bytes::written::{append, chunk};
-use crate::store_bytes::{Delivery, KeptHandings, Part, QueuePart, Receipt, StoreAsk, StoreReply};
 
 const WINDOW: u64 = 300_000;
 

@@ -3,13 +3,14 @@
 use std::collections::{BTreeMap, BTreeSet};
 use std::sync::Arc;
 
+use hobbychair_bytes::moment::Moment;
+use hobbychair_bytes::values::{Receipt, StoreReply};
 use proptest::prelude::*;
 use proptest::sample::{select, Index};
 use uuid::Uuid;
 
 use super::by_rules::StoreByRules;
 use crate::attributes::GivenAttributes;
-use crate::clock::Moment;
 use crate::errors::SqsError;
 use crate::handles::Origin;
 use crate::messages::{parts_of, Envelope, EnvelopeHead};
@@ -19,7 +20,6 @@ use crate::queues::copies::CopyId;
 use crate::queues::shards::Shards;
 use crate::queues::tasks::{MoveTask, Status};
 use crate::queues::{Queue, Queues};
-use crate::store_bytes::{Receipt, StoreReply};
 use crate::texts::{AttemptId, DedupId, GroupId, QueueKind, QueueName};
 
 const NAMES: [&str; 4] = ["a", "b.fifo", "c", "d.fifo"];

@@ -13,24 +13,24 @@ mod told;
 use std::future::Future;
 use std::sync::Arc;
 
+use hobbychair_bytes::moment::Moment;
+use hobbychair_bytes::values::Receipt;
 use tokio::sync::{mpsc, oneshot};
 use tokio::task::JoinHandle;
 use uuid::Uuid;
 
 use crate::budget::Share;
-use crate::clock::{Clock, Moment};
+use crate::clock::Clock;
 use crate::errors::SqsError;
 use crate::handles::{HandleKey, Mark};
 use crate::queues::ask::{Ask, Cause, Handed, Outcome, PartsAsk, Reach, StoreName, TableChange};
 use crate::queues::book::Entry;
 use crate::queues::shards::Shards;
 use crate::queues::{Queue, Queues};
-use crate::store_bytes::Receipt;
 use crate::texts::{AttemptId, QueueKind, QueueName};
 use admission::Admission;
-use figures::Counters;
-
 pub use beside_node::{take_up as take_up_from_node, wait_for as wait_beside_node, BesideNodeError};
+use figures::Counters;
 pub use figures::Figures;
 pub use task::{start, Ends, Kept, NodeStart, Start};
 pub use told::{start as start_told, Ready, ToldError};

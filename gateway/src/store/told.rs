@@ -4,14 +4,14 @@ use std::path::{Path, PathBuf};
 use std::time::{Duration, Instant};
 
 use bytes::{Bytes, BytesMut};
-use hobbychair_cluster::commands::{Command, Response, NO_MEMORY};
-use hobbychair_cluster::parts::{Cutter, Malformed, FRAME_LIMIT};
+use hobbychair_bytes::commands::{Command, Response, NO_MEMORY};
+use hobbychair_bytes::parts::{Cutter, Malformed, FRAME_LIMIT};
+use hobbychair_bytes::values::BadFrame;
 use thiserror::Error;
 use tokio::io::{AsyncReadExt, AsyncWriteExt};
 
 use crate::cq::{Cq, CqError, KeptFile};
 use crate::queues::ImageError;
-use crate::store_bytes::BadFrame;
 
 const PIECE: usize = 256 * 1024;
 

@@ -3,6 +3,7 @@
 use std::borrow::Cow;
 use std::collections::BTreeMap;
 
+use hobbychair_bytes::characters::{is_of_xml, is_xml_character};
 use quick_xml::events::{BytesDecl, BytesEnd, BytesStart, BytesText, Event};
 use quick_xml::Writer;
 
@@ -13,7 +14,6 @@ use super::{fault, AwsService, Incoming, Reply};
 use crate::action::Action;
 use crate::errors::SqsError;
 use crate::messages::AttributeValue;
-use crate::texts::{is_of_xml, is_xml_character};
 
 const CONTENT_TYPE: &str = "text/xml";
 

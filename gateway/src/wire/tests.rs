@@ -1,5 +1,6 @@
 //! Requests as two versions of botocore write them, the same spoilt at random, and answers that are read back.
 
+use hobbychair_bytes::seeded::{check, edits, spoilt};
 use proptest::prelude::*;
 use serde::Deserialize;
 
@@ -10,7 +11,6 @@ use crate::action::Action;
 use crate::errors::SqsError;
 use crate::messages::MessageAttributes;
 use crate::policy::Permission;
-use crate::seeded::{check, edits, spoilt};
 use crate::texts::test_characters;
 
 /// A call as a client wrote it.

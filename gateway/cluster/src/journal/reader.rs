@@ -5,11 +5,11 @@ use std::io;
 use std::path::{Path, PathBuf};
 
 use bytes::Bytes;
+use hobbychair_bytes::framing::{self, FileFrames};
+use hobbychair_bytes::parts::Reader;
 use thiserror::Error;
 
 use super::{Entry, Folder, Head, Known, Record, VERSION};
-use crate::framing::{self, FileFrames};
-use crate::parts::Reader;
 
 /// Bytes that were spoilt: something good is behind them.
 #[derive(Clone, Debug, PartialEq, Eq, Error)]

@@ -3,9 +3,9 @@
 use std::collections::BTreeSet;
 
 use bytes::Bytes;
+use hobbychair_bytes::parts::{Malformed, Parts, Reader};
 use serde::{Deserialize, Serialize};
 
-use crate::parts::{Malformed, Parts, Reader};
 use crate::records::{self, Chain};
 
 /// The version of all that is here, and of what gateways have in the store.

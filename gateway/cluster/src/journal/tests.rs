@@ -2,11 +2,11 @@ use std::sync::mpsc::{channel, Receiver};
 use std::time::Duration;
 
 use bytes::Bytes;
+use hobbychair_bytes::parts::{frame, Parts};
 use proptest::prelude::*;
 
 use super::reader::Damage;
 use super::*;
-use crate::parts::{frame, Parts};
 use crate::records::{random_name, Chain};
 
 /// A folder that goes with the test.
@@ -152,7 +152,7 @@ proptest! {
         let (_room, other) = room();
         written(&other, &batches);
         let good = fs::read(other.entries(1)).unwrap();
-        while let Some(frame) = crate::framing::read(&good, *ends.last().unwrap()) {
+        while let Some(frame) = hobbychair_bytes::framing::read(&good, *ends.last().unwrap()) {
             ends.push(frame.end());
         }
         let spoilt = ends.iter().rposition(|end| *end <= place as u64).unwrap();

@@ -11,9 +11,9 @@ use std::thread;
 use std::time::Duration;
 
 use bytes::Bytes;
+use hobbychair_bytes::framing;
 
 use super::{Folder, Head, Known, Record};
-use crate::framing;
 
 /// A batch with more bytes than this is given in several.
 pub const LONGEST_BATCH: usize = 1 << 20;

@@ -7,21 +7,20 @@ use std::sync::{Arc, Mutex};
 use std::time::{Duration, Instant};
 
 use bytes::Bytes;
+use hobbychair_bytes::parts::{Frames, FRAME_LIMIT};
 use tokio::io::AsyncWrite;
 use tokio::net::{TcpListener, TcpStream};
 use tokio::sync::mpsc::{unbounded_channel, UnboundedReceiver, UnboundedSender};
 use tokio::sync::{oneshot, Notify};
 use tokio::time::{sleep, timeout};
 
-use crate::identity::{Peer, Role};
-use crate::lock;
-use crate::parts::{Frames, FRAME_LIMIT};
-use crate::transport::{self, Reading, Writing};
-use crate::wire::{About, Frame, GREETING_LIMIT};
-
 use super::fronts::{self, MOST_FRONTS};
 use super::streams::Work;
 use super::{Event, Shared};
+use crate::identity::{Peer, Role};
+use crate::lock;
+use crate::transport::{self, Reading, Writing};
+use crate::wire::{About, Frame, GREETING_LIMIT};
 
 /// A connection has so long to say whom it is about.
 const GREETING: Duration = Duration::from_secs(5);

@@ -7,16 +7,8 @@ use std::time::{Duration, Instant};
 
 use anyhow::Result;
 use bytes::Bytes;
+use hobbychair_bytes::commands::{Command, Message, Party, Place, Response, Standing, NO_MEMORY};
 use tokio::sync::mpsc::UnboundedReceiver;
-
-use crate::child::{Child, Told};
-use crate::clock;
-use crate::commands::{Command, Message, Party, Place, Response, Standing, NO_MEMORY};
-use crate::journal::Written;
-use crate::link::Link;
-use crate::lock;
-use crate::records::Chain;
-use crate::wire::Frame;
 
 use super::gateway::{self, Beside};
 use super::inbox::{Inbox, Taken};
@@ -25,6 +17,13 @@ use super::peers::Peers;
 use super::streams::{Streams, Turn, Work};
 use super::trace::Trace;
 use super::{End, Event, Report, Shared};
+use crate::child::{Child, Told};
+use crate::clock;
+use crate::journal::Written;
+use crate::link::Link;
+use crate::lock;
+use crate::records::Chain;
+use crate::wire::Frame;
 
 /// So often what waits for memory is tried again, and timers are looked at.
 pub const TICK: Duration = Duration::from_millis(50);

@@ -5,16 +5,15 @@ use std::io;
 use std::sync::Mutex;
 use std::time::{Duration, Instant};
 
+use hobbychair_bytes::parts::Frames;
 use tokio::time::timeout;
-
-use crate::lock;
-use crate::parts::Frames;
-use crate::records::Witnesses;
-use crate::transport::{self, Reading, Writing};
-use crate::wire::Frame;
 
 use super::connections::{next_connection, other, read};
 use super::Shared;
+use crate::lock;
+use crate::records::Witnesses;
+use crate::transport::{self, Reading, Writing};
+use crate::wire::Frame;
 
 /// So many fronts may be there.
 pub const MOST_FRONTS: usize = 256;

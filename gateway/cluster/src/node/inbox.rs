@@ -4,7 +4,7 @@ use std::collections::VecDeque;
 
 use bytes::Bytes;
 
-use crate::commands::{Command, Message, Party, Place, BEGIN_AGAIN, NOT_NEXT, UNREADABLE};
+use hobbychair_bytes::commands::{Command, Message, Party, Place, BEGIN_AGAIN, NOT_NEXT, UNREADABLE};
 
 /// The pieces of one party. They are given ahead; those that were refused are given again, in order, and so are all
 /// behind them.
@@ -114,8 +114,9 @@ impl Inbox {
 
 #[cfg(test)]
 mod tests {
+    use hobbychair_bytes::commands::NO_MEMORY;
+
     use super::*;
-    use crate::commands::NO_MEMORY;
 
     const CHUNK: &[u8] = &[1, 1, 7];
     const LAST: &[u8] = &[1, 13];

@@ -8,12 +8,11 @@ use std::path::PathBuf;
 use std::time::{Duration, Instant};
 
 use bytes::Bytes;
-
-use crate::commands::Standing;
-use crate::journal::{self, Entry, Folder, Head, Known, Record, Writer, Written, LONGEST_BATCH, VERSION};
-use crate::records::{Chain, Cluster, DISK_HANGS};
+use hobbychair_bytes::commands::Standing;
 
 use super::Event;
+use crate::journal::{self, Entry, Folder, Head, Known, Record, Writer, Written, LONGEST_BATCH, VERSION};
+use crate::records::{Chain, Cluster, DISK_HANGS};
 
 /// A disk that ends no write for so long doesn't work.
 const HANGING: Duration = Duration::from_secs(2);
@@ -375,9 +374,10 @@ impl<W> Keeping<W> {
 mod tests {
     use std::sync::mpsc::{channel, Receiver};
 
+    use hobbychair_bytes::parts::Parts;
+
     use super::*;
     use crate::etcd::Etcd;
-    use crate::parts::Parts;
     use crate::records::{self, random_name, Keys};
 
     /// A journal whose writer is heard by the test, and what it tells.

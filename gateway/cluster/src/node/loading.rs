@@ -2,13 +2,12 @@
 
 use anyhow::{bail, Context, Result};
 use bytes::Bytes;
+use hobbychair_bytes::commands::{Command, Response, Standing};
 use tokio::sync::mpsc::UnboundedReceiver;
 
-use crate::child::{Child, Told};
-use crate::commands::{Command, Response, Standing};
-use crate::journal::Found;
-
 use super::Event;
+use crate::child::{Child, Told};
+use crate::journal::Found;
 
 /// Gives the server the store of a journal, before it is given anything else. Says where it stands then.
 pub async fn load(child: &Child, heard: &mut UnboundedReceiver<Event>, found: &Found) -> Result<Standing> {

@@ -21,28 +21,27 @@ use std::sync::{Arc, Mutex};
 
 use anyhow::{anyhow, bail, Context, Result};
 use bytes::Bytes;
+use hobbychair_bytes::commands::Standing;
+use hobbychair_bytes::pipe::FromNode;
 use tokio::net::TcpListener;
 use tokio::signal::unix::{signal, Signal, SignalKind};
 use tokio::sync::mpsc::{unbounded_channel, UnboundedSender};
 use tokio::sync::{oneshot, Notify, Semaphore};
-
-use crate::addresses::{test_here, Place};
-use crate::child::{Child, Told};
-use crate::clock::{self, Clock};
-use crate::commands::Standing;
-use crate::etcd::{Guard, Operation};
-use crate::journal::{self, Folder, Written};
-use crate::pipe::FromNode;
-use crate::records::{self, random_name, Chain, Cluster, Disk, JournalKind, Pause, Readiness, Registration};
-use crate::suspension::Suspension;
-use crate::wire::{About, Frame};
-use crate::{lock, say};
 
 use self::connections::{Linked, Outlet};
 use self::core::Core;
 use self::fronts::Fronts;
 use self::keeping::Keeping;
 use self::streams::Work;
+use crate::addresses::{test_here, Place};
+use crate::child::{Child, Told};
+use crate::clock::{self, Clock};
+use crate::etcd::{Guard, Operation};
+use crate::journal::{self, Folder, Written};
+use crate::records::{self, random_name, Chain, Cluster, Disk, JournalKind, Pause, Readiness, Registration};
+use crate::suspension::Suspension;
+use crate::wire::{About, Frame};
+use crate::{lock, say};
 
 /// With this server a cluster begins that was recovered.
 const FIRST: u32 = 1;

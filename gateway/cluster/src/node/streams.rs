@@ -8,13 +8,12 @@
 use std::collections::{BTreeMap, VecDeque};
 
 use bytes::Bytes;
+use hobbychair_bytes::commands::{Standing, NOT_HEAD, STREAM_ENDED};
+use hobbychair_bytes::pipe::RequestName;
 use tokio::sync::oneshot;
 
-use crate::commands::{Standing, NOT_HEAD, STREAM_ENDED};
-use crate::pipe::RequestName;
-use crate::wire::Frame;
-
 use super::connections::Outlet;
+use crate::wire::Frame;
 
 /// So many entries may be on their way to the tail before requests wait at the head's door.
 const MOST_ENTRIES: u64 = 4096;

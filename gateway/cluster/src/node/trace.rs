@@ -4,7 +4,7 @@ use std::fs::{File, OpenOptions};
 use std::io::{self, Write};
 use std::path::Path;
 
-use crate::commands::Response;
+use hobbychair_bytes::commands::Response;
 
 /// The file: each command that wasn't refused, and behind it its responses, as frames. In each frame a byte stands in front:
 /// 0 for a command and 1 for a response.

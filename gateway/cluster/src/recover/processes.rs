@@ -10,6 +10,7 @@ use std::net::SocketAddr;
 use std::time::Duration;
 
 use anyhow::{ensure, Context, Result};
+use hobbychair_bytes::parts::Frames;
 use hyper::client::conn::handshake;
 use hyper::{Body, Request};
 use tokio::io::{AsyncRead, AsyncWrite};
@@ -19,7 +20,6 @@ use tokio::time::{sleep, timeout, Instant};
 
 use crate::etcd::{Entry, Guard, Operation};
 use crate::identity::Role;
-use crate::parts::Frames;
 use crate::records::{self, last_number, Beat, Chain, Cluster, Registration};
 use crate::say;
 use crate::transport;

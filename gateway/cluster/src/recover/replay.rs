@@ -4,10 +4,10 @@ use std::collections::VecDeque;
 
 use anyhow::{bail, ensure, Context, Result};
 use bytes::Bytes;
+use hobbychair_bytes::commands::{Command, Response, Standing};
 use tokio::sync::mpsc::{unbounded_channel, UnboundedReceiver};
 
 use crate::child::{Child, Told};
-use crate::commands::{Command, Response, Standing};
 use crate::journal::{self, Folder, Found, Head};
 
 /// So many requests are on their way to the server.

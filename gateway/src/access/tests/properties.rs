@@ -4,6 +4,7 @@ use std::cell::Cell;
 use std::collections::BTreeMap;
 use std::time::{Duration, SystemTime};
 
+use hobbychair_bytes::seeded::check;
 use hyper::header::{HeaderMap, HeaderName, HeaderValue};
 use proptest::collection::vec;
 use proptest::prelude::*;
@@ -12,7 +13,6 @@ use proptest::sample::{select, Index};
 use super::{all_signed, signed, signed_at, Request};
 use crate::access::file::parse;
 use crate::access::timestamp::Timestamp;
-use crate::seeded::check;
 
 /// A part of a request that is text. Headers count from the first on.
 #[derive(Clone, Debug)]

@@ -1,11 +1,11 @@
 //! Each way in which a request is refused.
 
+use hobbychair_bytes::digits::hex;
 use hyper::header::{HeaderMap, HeaderValue};
 use sha2::{Digest, Sha256};
 
 use super::{keys, signed, signed_at, Request, KEY};
 use crate::errors::SqsError;
-use crate::texts::hex;
 
 /// The query form's code, and the status.
 fn refusal(request: &Request) -> (&'static str, u16) {

@@ -1,8 +1,9 @@
 //! A store that begins with what stands for earlier requests: it is made of its bytes (`docs/WIRE.md`, "A store").
 
+use hobbychair_bytes::values::{Fault, Part, StoreReader};
+
 use super::queue::{Loaded, Queue};
 use super::{Last, Name, Store};
-use crate::store_bytes::{Fault, Part, StoreReader};
 
 /// A store that isn't whole yet.
 #[derive(Default)]

@@ -8,12 +8,12 @@ mod tests;
 
 use std::collections::HashMap;
 
+use hobbychair_bytes::values::{StoreAsk, StoreReply, StoreRequest};
 use serde_json::{Map, Value};
 
 use super::finding::{Finding, Judged, Rule};
 use super::line::{bare, Line, Members};
 use super::stored::{told, Told, NO_QUEUE, OTHER_ATTRIBUTES, REMOVED_LATELY, STALE};
-use crate::store_bytes::{StoreAsk, StoreReply, StoreRequest};
 pub use loading::Loading;
 use queue::Queue;
 

@@ -4,8 +4,9 @@ use std::collections::{BTreeMap, BTreeSet, HashMap, VecDeque};
 use std::rc::Rc;
 use std::sync::Arc;
 
+use hobbychair_bytes::values::{Delivery, QueuePart, Receipt, StoreReply};
+
 use crate::history::stored::{BAD_RECEIPT, BEYOND_LIMIT, NOT_IN_FLIGHT, NO_ID};
-use crate::store_bytes::{Delivery, QueuePart, Receipt, StoreReply};
 use crate::texts::DedupId;
 
 /// A send with the id of an earlier one adds nothing for so long, in milliseconds.

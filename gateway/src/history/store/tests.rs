@@ -1,5 +1,7 @@
 //! Histories of a store by hand, and such as a store has by the rules that other tests have.
 
+use hobbychair_bytes::seeded;
+use hobbychair_bytes::values::Receipt;
 use proptest::prelude::*;
 use serde_json::{json, Value};
 
@@ -7,9 +9,7 @@ use super::super::{check, Told};
 use super::*;
 use crate::history::stored::{line_of_chunk, line_of_request, request_of};
 use crate::queues::ask::StoreName;
-use crate::seeded;
 use crate::store::by_rules::StoreByRules;
-use crate::store_bytes::Receipt;
 
 /// A history that is written by a test.
 #[derive(Default)]

@@ -1,5 +1,8 @@
 //! Tables that are made of a store's bytes are the tables that are there.
 
+use hobbychair_bytes::seeded::check;
+use hobbychair_bytes::values::written::{append, chunk};
+use hobbychair_bytes::values::{KeptHandings, Receipt};
 use proptest::prelude::*;
 use proptest::sample::Index;
 use proptest::test_runner::TestCaseResult;
@@ -8,10 +11,7 @@ use super::*;
 use crate::messages::{Envelope, Metadata};
 use crate::queues::book::{ProgramEntry, QueueEntry};
 use crate::queues::shards::Shards;
-use crate::seeded::check;
 use crate::store::living::{steps, told, Living, Seen, Step};
-use crate::store_bytes::written::{append, chunk};
-use crate::store_bytes::{KeptHandings, Receipt};
 use crate::texts::{Body, QueueName};
 
 /// The tables that are made of what was there behind a request.

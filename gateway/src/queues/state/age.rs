@@ -1,7 +1,8 @@
 //! Which messages are older than the queue keeps them.
 
+use hobbychair_bytes::moment::Moment;
+
 use super::State;
-use crate::clock::Moment;
 use crate::queues::jumps::Jumps;
 
 impl State {

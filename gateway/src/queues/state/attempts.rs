@@ -3,8 +3,9 @@
 use std::cmp::Reverse;
 use std::collections::{BinaryHeap, HashMap};
 
+use hobbychair_bytes::moment::Moment;
+
 use super::WINDOW;
-use crate::clock::Moment;
 use crate::queues::ask::Handed;
 use crate::queues::book::AttemptRequest;
 use crate::texts::AttemptId;
@@ -141,7 +142,7 @@ fn is_end(by_id: &HashMap<AttemptId, Attempt>, id: &AttemptId, end: Moment) -> b
 mod tests {
     use super::*;
 
-    use crate::store_bytes::Receipt;
+    use hobbychair_bytes::values::Receipt;
 
     fn attempt(moment: Moment, until: Moment, sequences: &[u64]) -> Attempt {
         let handed = |sequence: &u64| Handed {

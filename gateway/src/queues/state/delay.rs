@@ -1,13 +1,13 @@
 //! Delays: which messages are due.
 
+use hobbychair_bytes::moment::Moment;
+use hobbychair_bytes::values::Receipt;
 use uuid::Uuid;
 
 use super::delayed::First;
 use super::message::Message;
 use super::State;
-use crate::clock::Moment;
 use crate::queues::ask::Outcome;
-use crate::store_bytes::Receipt;
 use crate::texts::DedupId;
 
 impl State {

@@ -4,10 +4,10 @@
 use std::collections::{BTreeSet, HashMap, VecDeque};
 use std::ops::Bound;
 
+use hobbychair_bytes::moment::Moment;
 use uuid::Uuid;
 
 use super::WINDOW;
-use crate::clock::Moment;
 use crate::limits::CALL_BYTES;
 use crate::texts::{CallKey, DedupId};
 

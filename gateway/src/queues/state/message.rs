@@ -5,8 +5,9 @@
 use std::collections::HashMap;
 use std::sync::Arc;
 
+use hobbychair_bytes::moment::Moment;
+
 use super::numbers::Numbers;
-use crate::clock::Moment;
 use crate::queues::groups::{Group, Groups};
 use crate::texts::QueueName;
 

@@ -19,20 +19,20 @@ mod tests;
 use std::collections::{HashMap, VecDeque};
 use std::sync::Arc;
 
+use hobbychair_bytes::moment::Moment;
+use hobbychair_bytes::values::{Delivery, Receipt, StoreReply};
 use uuid::Uuid;
 
 use super::ask::{Ask, Cause, Changer, Fate, Handed, Outcome, Reach};
 use super::book::{AttemptEntry, AttemptRequest, Entry, QueueEntry};
 use super::groups::{Group, Groups};
 use crate::attributes::QueueAttributes;
-use crate::clock::Moment;
 use crate::errors::SqsError;
 use crate::limits::{ID_BYTES, MESSAGE_BYTES, QUEUE_BYTES, STORED_ID_BYTES, STORED_MESSAGE_BYTES, STORED_QUEUE_BYTES};
 use crate::messages::{has_parts, Envelope, EnvelopeHead};
 use crate::queues::jumps::Jumps;
 use crate::queues::tasks::{MoveTask, Status};
 use crate::redrive::RedrivePolicy;
-use crate::store_bytes::{Delivery, Receipt, StoreReply};
 use crate::texts::{AttemptId, GroupId, QueueKind};
 use attempts::{Attempt, Attempts};
 use delayed::{Calls, DueMessages, First};

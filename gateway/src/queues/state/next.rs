@@ -2,9 +2,10 @@
 
 use std::sync::Arc;
 
+use hobbychair_bytes::moment::Moment;
+
 use super::message::Message;
 use super::State;
-use crate::clock::Moment;
 use crate::queues::groups::Groups;
 use crate::queues::jumps::Jumps;
 use crate::texts::{QueueKind, QueueName};

@@ -2,10 +2,11 @@
 
 use std::sync::Arc;
 
+use hobbychair_bytes::moment::Moment;
+
 use super::delayed::Place;
 use super::message::Message;
 use super::{Applied, State};
-use crate::clock::Moment;
 use crate::queues::ask::{Ask, Outcome};
 use crate::queues::Queue;
 

@@ -1,13 +1,14 @@
 //! Which receipts a queue gave out, and what they are good for.
 
+use hobbychair_bytes::moment::Moment;
+use hobbychair_bytes::values::Receipt;
+
 use super::message::Message;
 use super::State;
-use crate::clock::Moment;
 use crate::errors::SqsError;
 use crate::handles::Handle;
 use crate::queues::ask::Fate;
 use crate::queues::jumps::Jumps;
-use crate::store_bytes::Receipt;
 
 impl State {
     /// The receipt of this handing of this message.

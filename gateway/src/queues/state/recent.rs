@@ -5,8 +5,9 @@
 
 use std::collections::HashMap;
 
+use hobbychair_bytes::moment::Moment;
+
 use super::{State, WINDOW};
-use crate::clock::Moment;
 use crate::queues::ask::Outcome;
 use crate::texts::{DedupId, QueueKind};
 

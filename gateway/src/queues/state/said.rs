@@ -2,9 +2,10 @@
 
 use std::collections::BTreeMap;
 
+use hobbychair_bytes::moment::Moment;
+
 use super::{delay_of_all, State};
 use crate::attributes::QueueAttributes;
-use crate::clock::Moment;
 use crate::limits::QUEUE_BYTES;
 use crate::queues::ask::TableChange;
 use crate::queues::book::{Entry, Purging, QueueEntry, Removal};

@@ -4,12 +4,14 @@ use std::collections::HashMap;
 use std::sync::atomic::{AtomicU64, Ordering};
 use std::sync::Arc;
 
+use hobbychair_bytes::moment::Moment;
+use hobbychair_bytes::values::Receipt;
+
 use super::attempts::Attempt;
 use super::delayed::First;
 use super::message::{Handing, Message};
 use super::recent::RecentSend;
 use super::{State, WINDOW};
-use crate::clock::Moment;
 use crate::handles::Mark;
 use crate::handles::Origin;
 use crate::messages::message_id;
@@ -18,7 +20,6 @@ use crate::queues::book::AttemptEntry;
 use crate::queues::image::{AcceptedSend, Named, StoredMessage, StoredQueue};
 #[cfg(test)]
 use crate::queues::tasks::MoveTask;
-use crate::store_bytes::Receipt;
 use crate::texts::{AttemptId, CallKey, QueueKind};
 
 impl State {

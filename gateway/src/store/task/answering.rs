@@ -1,5 +1,6 @@
 //! Answers: what the program said, and who is told.
 
+use hobbychair_bytes::values::StoreReply;
 use tokio::time::Instant;
 
 use super::chain::Chain;
@@ -8,7 +9,6 @@ use super::{Ended, Task};
 use crate::errors::SqsError;
 use crate::queues::ask::{Ask, Outcome};
 use crate::store::{Answer, AnswerSender};
-use crate::store_bytes::StoreReply;
 
 impl Task {
     pub(super) fn read_answers(&mut self) -> Result<(), Ended> {

@@ -2,8 +2,9 @@
 
 use std::sync::Arc;
 
+use hobbychair_bytes::moment::Moment;
+
 use super::room::adds;
-use crate::clock::Moment;
 use crate::queues::ask::Ask;
 use crate::queues::Queue;
 use crate::store::{Answer, AnswerSender, Operation};

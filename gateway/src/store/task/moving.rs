@@ -5,11 +5,12 @@
 
 use std::sync::Arc;
 
+use hobbychair_bytes::moment::Moment;
+
 use super::clients::CLIENTS;
 use super::entries::{Entry, Open, OpenAsk, StartOutcome};
 use super::starting::stamped;
 use super::Task;
-use crate::clock::Moment;
 use crate::errors::SqsError;
 use crate::queues::ask::{Ask, StoreName};
 use crate::queues::Queue;

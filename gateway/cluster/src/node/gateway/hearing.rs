@@ -4,18 +4,17 @@ use std::io;
 use std::sync::Arc;
 use std::time::Duration;
 
+use hobbychair_bytes::parts::{Frames, FRAME_LIMIT};
 use tokio::io::{AsyncRead, AsyncWrite};
 use tokio::sync::mpsc::{unbounded_channel, UnboundedReceiver};
 use tokio::time::{sleep, timeout};
 
-use crate::parts::{Frames, FRAME_LIMIT};
-use crate::records::Registration;
-use crate::transport;
-use crate::wire::Frame;
-
 use super::super::connections::{next_connection, other, read};
 use super::super::{Event, Shared};
 use super::{Happening, Heard, CLIENTS};
+use crate::records::Registration;
+use crate::transport;
+use crate::wire::Frame;
 
 /// So long a connection may take to begin.
 const CONNECTING: Duration = Duration::from_secs(1);

@@ -20,19 +20,18 @@ use std::sync::Arc;
 use std::time::{Duration, Instant};
 
 use bytes::Bytes;
+use hobbychair_bytes::commands::Standing;
+use hobbychair_bytes::pipe::{FromGateway, FromNode};
 use tokio::sync::mpsc::UnboundedSender;
 use tokio::sync::oneshot;
 use tokio::task::JoinHandle;
 
-use crate::addresses::Place;
-use crate::commands::Standing;
-use crate::pipe::{FromGateway, FromNode};
-use crate::records::{Failing, GatewayPhase};
-use crate::wire::Frame;
-
 use super::connections::{next_connection, Outlet};
 use super::streams::{Streams, Work};
 use super::Shared;
+use crate::addresses::Place;
+use crate::records::{Failing, GatewayPhase};
+use crate::wire::Frame;
 
 /// The client numbers of a gateway.
 const CLIENTS: RangeInclusive<u32> = 0..=256;

@@ -13,6 +13,9 @@ use std::time::{Duration, Instant};
 use std::{io, thread};
 
 use bytes::Bytes;
+use hobbychair_bytes::parts::{Frames, FRAME_LIMIT};
+use hobbychair_bytes::pipe::{FromGateway, FromNode};
+use hobbychair_bytes::processes::end_with_this_process;
 use tokio::io::{AsyncRead, AsyncWrite};
 use tokio::net::UnixStream;
 use tokio::process;
@@ -20,17 +23,14 @@ use tokio::sync::mpsc::{unbounded_channel, UnboundedReceiver};
 use tokio::sync::oneshot;
 use tokio::time::{sleep, timeout};
 
-use crate::child::{end_with_this_process, said};
-use crate::identity::Pems;
-use crate::parts::{Frames, FRAME_LIMIT};
-use crate::pipe::{FromGateway, FromNode};
-use crate::records::Cluster;
-use crate::wire::Frame;
-
 use super::super::connections::{next_connection, other, write_some, Outlet};
 use super::super::{Event, Shared};
 use super::port::Port;
 use super::{Happening, Settings, CLIENTS};
+use crate::child::said;
+use crate::identity::Pems;
+use crate::records::Cluster;
+use crate::wire::Frame;
 
 /// So many bytes may wait for a gateway. It has few open requests, and answers to these may be large.
 const MOST_WAITING: usize = 256 << 20;

@@ -2,11 +2,11 @@
 
 use std::future::pending;
 
+use hobbychair_bytes::commands::Standing;
 use tokio::sync::mpsc::{unbounded_channel, UnboundedReceiver};
 
 use super::super::connections::Outlet;
 use super::*;
-use crate::commands::Standing;
 
 const HEAD: Standing = Standing { count: 0, acked: 0, last: 0, is_head: true, is_acting: false, is_full: true };
 

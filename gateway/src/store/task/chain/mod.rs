@@ -11,8 +11,9 @@ mod tests;
 use std::collections::HashMap;
 use std::time::Duration;
 
-use hobbychair_cluster::parts::{Cutter, Malformed, FRAME_LIMIT};
-use hobbychair_cluster::pipe::{FromGateway, FromNode, RequestName};
+use hobbychair_bytes::parts::{Cutter, Malformed, FRAME_LIMIT};
+use hobbychair_bytes::pipe::{FromGateway, FromNode, RequestName};
+use hobbychair_bytes::values::{StoreAnswer, StoreReply};
 use tokio::time::Instant;
 
 use super::clients::COUNTER;
@@ -20,7 +21,6 @@ use super::entries::{Entry, Open};
 use super::room::adds;
 use super::{Ended, Task};
 use crate::errors::SqsError;
-use crate::store_bytes::{StoreAnswer, StoreReply};
 
 /// Behind a refusal all is asked again after this time: there was no memory.
 const PAUSE: Duration = Duration::from_millis(50);

@@ -12,18 +12,18 @@ use std::collections::VecDeque;
 use std::time::Duration;
 
 use bytes::Bytes;
-use hobbychair_cluster::commands::{append_arrival, append_query, Command, Party, Response, NO_MEMORY, NO_ROOM};
-use hobbychair_cluster::parts::{Cutter, Malformed, FRAME_LIMIT};
+use hobbychair_bytes::commands::{append_arrival, append_query, Command, Party, Response, NO_MEMORY, NO_ROOM};
+use hobbychair_bytes::moment::Moment;
+use hobbychair_bytes::parts::{Cutter, Malformed, FRAME_LIMIT};
+use hobbychair_bytes::values::{BadFrame, StoreAnswer};
 use tokio::time::Instant;
 
 use super::chain::{is_answer_to, take_due};
 use super::entries::{Entry, Open};
 use super::room::{adds, refusal_for_room};
 use super::{Ended, Task};
-use crate::clock::Moment;
 use crate::errors::SqsError;
 use crate::queues::ask::{Ask, Cause, Outcome};
-use crate::store_bytes::{BadFrame, StoreAnswer};
 
 /// After this time something is tried again for which there was no memory.
 const PAUSE: Duration = Duration::from_millis(50);

@@ -1,8 +1,9 @@
 use std::sync::Arc;
 
 use bytes::Bytes;
-use hobbychair_cluster::commands::{Place, Standing};
-use hobbychair_cluster::parts::{Frames, Reader};
+use hobbychair_bytes::commands::{Place, Standing};
+use hobbychair_bytes::parts::{Frames, Reader};
+use hobbychair_bytes::values::{Receipt, StoreReply};
 use tokio::io::AsyncWriteExt;
 use tokio::net::unix::{OwnedReadHalf, OwnedWriteHalf};
 use tokio::net::UnixStream;
@@ -20,7 +21,6 @@ use crate::queues::{Queue, Queues};
 use crate::store::task::clients::COUNTER;
 use crate::store::task::{start, Ends, Kept, Start};
 use crate::store::{Answer as Answered, Copy, Store};
-use crate::store_bytes::{Receipt, StoreReply};
 use crate::texts::{DedupId, GroupId, QueueName};
 
 /// The other end of the gateway's pipe.

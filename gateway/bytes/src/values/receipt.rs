@@ -1,6 +1,6 @@
 //! Receipts.
 
-use hobbychair_cluster::parts::Parts;
+use crate::parts::Parts;
 
 use super::reader::ValueReader;
 use super::Fault;

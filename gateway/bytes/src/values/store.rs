@@ -8,7 +8,7 @@ use std::collections::HashSet;
 use super::parts::{next_part, Digest, Mention};
 use super::reader::ValueReader;
 use super::{Fault, Part, QueuePart};
-use crate::clock::Moment;
+use crate::moment::Moment;
 
 /// A reader of one store. After a fault it reads nothing more.
 #[derive(Default)]

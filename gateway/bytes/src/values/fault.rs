@@ -1,7 +1,8 @@
 //! What isn't read.
 
-use hobbychair_cluster::parts::Malformed;
 use thiserror::Error;
+
+use crate::parts::Malformed;
 
 /// Why bytes are no value, by the number and the name that the page gives it.
 #[derive(Clone, Copy, Debug, PartialEq, Eq, Error)]

@@ -9,16 +9,13 @@ mod root;
 #[cfg(test)]
 mod tests;
 
-use std::fs::{File, OpenOptions};
+use std::fs::File;
 use std::io;
 use std::ops::Range;
 use std::os::unix::fs::FileExt;
-use std::path::Path;
 
 use thiserror::Error;
 
-use crate::cq::is_blank;
-use crate::journal::{files_found, open_file, JournalError};
 use frames::record_at;
 use pieces::{unstuffed, Form};
 use root::Root;
@@ -49,24 +46,6 @@ pub enum JournalFileError {
     Damaged(u64),
     #[error("its records were written anew while it was read: read a copy of it")]
     Changed,
-}
-
-/// Refuses the files of a journal of which one has another form: that of an earlier build, or of a session, or none at all. What else
-/// is wrong with them is told by their programs.
-pub fn refuse_other_forms(path: &Path) -> Result<(), JournalError> {
-    for file in files_found(path)? {
-        match JournalFile::open(&file, SERVER) {
-            Err(why @ (JournalFileError::NotAJournal | JournalFileError::OtherJournal)) if !is_emptied(&file) => {
-                return Err(JournalError::OtherForm(file.display().to_string(), why.to_string()));
-            }
-            _ => {}
-        }
-    }
-    Ok(())
-}
-
-fn is_emptied(file: &Path) -> bool {
-    is_blank(file).unwrap_or(true)
 }
 
 /// What stands in a file, in its order.
@@ -104,9 +83,8 @@ struct Region {
 }
 
 impl JournalFile {
-    /// Opens a file, and reads its root and its first region. Whatever is no journal of entries is refused.
-    pub fn open(path: &Path, lengths: Lengths) -> Result<JournalFile, JournalFileError> {
-        let file = open_file(path, OpenOptions::new().read(true))?;
+    /// Reads the root of a file that was opened, and its first region. Whatever is no journal of entries is refused.
+    pub fn read(file: &File, lengths: Lengths) -> Result<JournalFile, JournalFileError> {
         for _ in 0..TRIES {
             match JournalFile::begin(file.try_clone()?, lengths) {
                 Err(JournalFileError::Changed) => {}
@@ -131,7 +109,7 @@ impl JournalFile {
 
     /// The next thing that stands there; none behind the last. What the file's server adds from its opening on may be left out.
     /// Where it puts its store in the place of all entries meanwhile, that is `Changed`.
-    pub fn next(&mut self) -> Result<Option<Kept>, JournalFileError> {
+    pub fn next_kept(&mut self) -> Result<Option<Kept>, JournalFileError> {
         let Some(piece) = self.next_piece()? else {
             // A store has an end.
             return if self.form == Some(Form::Store) { Err(self.damaged()) } else { Ok(None) };

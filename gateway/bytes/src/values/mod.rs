@@ -12,14 +12,13 @@ mod replies;
 mod store;
 #[cfg(test)]
 mod tests;
-#[cfg(test)]
+#[cfg(any(test, feature = "testing"))]
 pub mod written;
 
 pub use asks::{append_query, append_request, StoreAsk, StoreEntry, StoreRequest};
 pub use fault::{BadFrame, Fault};
-#[cfg(test)]
-pub use parts::KeptHandings;
-pub use parts::{Part, QueuePart};
+pub use parts::{KeptHandings, Part, QueuePart};
+pub use reader::STORE_LIMIT;
 pub use receipt::Receipt;
 pub use replies::{Delivery, StoreAnswer, StoreReply};
 pub use store::StoreReader;

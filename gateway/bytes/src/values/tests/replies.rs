@@ -4,7 +4,7 @@ use proptest::prelude::*;
 
 use super::{bytes_of, said_of};
 use crate::seeded::{check, edits, spoilt};
-use crate::store_bytes::{Delivery, Fault, Receipt, StoreAnswer, StoreReply};
+use crate::values::{Delivery, Fault, Receipt, StoreAnswer, StoreReply};
 
 fn delivery(numbers: [u64; 3], group: &str, body: &str) -> Delivery {
     let [incarnation, sequence, ordinal] = numbers;

@@ -3,8 +3,8 @@ mod replies;
 mod stores;
 
 /// What the program that tries bytes was asked, and what it said.
-const ASKED: &str = include_str!(concat!(env!("CARGO_MANIFEST_DIR"), "/../crates/cq_check_wire/stdin"));
-const SAID: &str = include_str!(concat!(env!("CARGO_MANIFEST_DIR"), "/../crates/cq_check_wire/stdout"));
+const ASKED: &str = include_str!(concat!(env!("CARGO_MANIFEST_DIR"), "/../../crates/cq_check_wire/stdin"));
+const SAID: &str = include_str!(concat!(env!("CARGO_MANIFEST_DIR"), "/../../crates/cq_check_wire/stdout"));
 
 /// The bytes of hexadecimal digits, between which there may be spaces.
 fn bytes_of(digits: &str) -> Vec<u8> {

@@ -2,16 +2,16 @@
 
 use std::collections::HashSet;
 
-use hobbychair_cluster::parts::VERSION;
 use proptest::prelude::*;
 use proptest::sample::Index;
 
 use super::{bytes_of, said_of, ASKED, SAID};
-use crate::clock::Moment;
+use crate::digits::hex;
+use crate::moment::Moment;
+use crate::parts::VERSION;
 use crate::seeded::{check, edits, spoilt};
-use crate::store_bytes::written::{append, chunk};
-use crate::store_bytes::{Fault, KeptHandings, Part, QueuePart, StoreReader};
-use crate::texts::hex;
+use crate::values::written::{append, chunk};
+use crate::values::{Fault, KeptHandings, Part, QueuePart, StoreReader};
 
 /// The stores that it wrote, and their words.
 fn written_stores() -> Vec<(Vec<u8>, &'static str)> {

@@ -1,6 +1,6 @@
 //! Writes what stores answer, and stores, as bytes, for tests.
 
-use hobbychair_cluster::parts::{Parts, VERSION};
+use crate::parts::{Parts, VERSION};
 
 use super::replies::{ANSWER, CHANGED, COUNTS, CREATED, DELETED, RECEIVED, REFUSED, REMOVED, SENT};
 use super::{Delivery, KeptHandings, Part, Receipt, StoreAnswer, StoreReply};

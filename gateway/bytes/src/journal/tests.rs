@@ -5,9 +5,9 @@ use std::path::PathBuf;
 
 use super::frames::record_at;
 use super::*;
-use crate::journal::tests::Room;
+use crate::room::Room;
 
-const PAGE: &str = include_str!(concat!(env!("CARGO_MANIFEST_DIR"), "/../docs/JOURNAL.md"));
+const PAGE: &str = include_str!(concat!(env!("CARGO_MANIFEST_DIR"), "/../../docs/JOURNAL.md"));
 
 const LENGTHS: Lengths = Lengths { half: 64, region: 128 };
 const FRONT: usize = 2 * LENGTHS.half;
@@ -81,7 +81,7 @@ impl Made {
     }
 
     fn open(&self) -> Result<JournalFile, JournalFileError> {
-        JournalFile::open(&self.write(), LENGTHS)
+        JournalFile::read(&File::open(self.write())?, LENGTHS)
     }
 
     /// All that stands there, in words.
@@ -96,7 +96,7 @@ impl Made {
 }
 
 fn rest(journal: &mut JournalFile, words: &mut Vec<String>) -> Result<(), JournalFileError> {
-    while let Some(kept) = journal.next()? {
+    while let Some(kept) = journal.next_kept()? {
         words.push(match kept {
             Kept::Entry(bytes) => format!("{:?}", String::from_utf8_lossy(&bytes)),
             Kept::EndOfStore => "end".into(),

@@ -2,13 +2,13 @@
 
 use std::fmt::Debug;
 
-use hobbychair_cluster::parts::{Parts, VERSION};
 use proptest::prelude::*;
 
 use super::{bytes_of, said_of};
+use crate::digits::hex;
+use crate::parts::{Parts, VERSION};
 use crate::seeded::{check, edits, spoilt};
-use crate::store_bytes::{append_query, append_request, Fault, Receipt, StoreAsk, StoreEntry, StoreRequest};
-use crate::texts::hex;
+use crate::values::{append_query, append_request, Fault, Receipt, StoreAsk, StoreEntry, StoreRequest};
 
 const RECEIPT: Receipt = Receipt { incarnation: 1, sequence: 258, ordinal: 3 };
 

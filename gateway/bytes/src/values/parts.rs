@@ -5,7 +5,7 @@ use sha2::Sha256;
 use super::reader::ValueReader;
 use super::replies::StoreReply;
 use super::{Fault, Receipt};
-use crate::clock::Moment;
+use crate::moment::Moment;
 
 /// The most handings and uses.
 const MOST_USES: u64 = 1 << 62;

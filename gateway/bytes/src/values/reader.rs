@@ -1,10 +1,13 @@
 //! The parts of values, from left to right (`docs/WIRE.md`, "Parts").
 
-use hobbychair_cluster::parts::VERSION;
+use crate::parts::VERSION;
 
 use super::Fault;
-use crate::clock::Moment;
-use crate::texts::{is_of_xml, is_short_and_printable, STORE_LIMIT};
+use crate::characters::{is_of_xml, is_short_and_printable};
+use crate::moment::Moment;
+
+/// The longest text that the store takes as a body, in bytes of UTF-8.
+pub const STORE_LIMIT: usize = 262_144;
 
 /// The latest moment.
 const LATEST: u64 = 1 << 60;

@@ -3,11 +3,11 @@
 use std::fmt::Display;
 use std::io::Write;
 
-use hobbychair_cluster::parts::Parts;
+use crate::parts::Parts;
 
 use super::reader::ValueReader;
 use super::{Fault, Receipt};
-use crate::clock::Moment;
+use crate::moment::Moment;
 
 /// What is asked of a queue. Timeouts are in seconds.
 #[derive(Clone, Debug, PartialEq, Eq)]
@@ -106,7 +106,7 @@ impl<'a, T: From<&'a str>> StoreAsk<T> {
     }
 }
 
-#[cfg(test)]
+#[cfg(any(test, feature = "testing"))]
 impl<'a, T: From<&'a str>> StoreAsk<T> {
     /// An ask that was written by itself, and the name of its queue.
     pub fn read_whole(bytes: &'a [u8]) -> Result<(T, StoreAsk<T>), Fault> {

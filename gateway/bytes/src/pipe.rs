@@ -103,7 +103,9 @@ impl FromNode {
             4 => FromNode::Acts,
             5 => {
                 let (stream, code, is_named) = (from.number64()?, from.number32()?, from.flag()?);
-                let name = |from: &mut Reader| Ok(RequestName { client: from.number32()?, number: from.number64()? });
+                let name = |from: &mut Reader| -> Result<RequestName, Malformed> {
+                    Ok(RequestName { client: from.number32()?, number: from.number64()? })
+                };
                 FromNode::Refused { stream, code, request: is_named.then(|| name(&mut from)).transpose()? }
             }
             6 => FromNode::Room { memory: from.number64()?, is_disk_short: from.flag()? },

@@ -213,7 +213,7 @@ impl<R: AsyncRead + Unpin> Frames<R> {
     }
 
     /// Where it reads.
-    #[cfg(test)]
+    #[cfg(any(test, feature = "testing"))]
     pub fn reader(&mut self) -> &mut R {
         &mut self.from
     }
