@@ -239,46 +239,6 @@ fn party(reader: &mut Reader) -> Result<Party, Malformed> {
     }
 }
 
-/// What a host has to know of a message: it reads the others for the master and for clients alone.
-#[derive(Clone, Copy, Debug, PartialEq, Eq)]
-pub enum Message {
-    Adopted {
-        successor: u32,
-    },
-    Caught {
-        predecessor: u32,
-    },
-    Ready,
-    Answer {
-        client: u32,
-    },
-    /// A piece of a snapshot that isn't its last.
-    Chunk,
-    /// A server tells the one before it that an entry is with all behind.
-    Ack,
-    Other,
-}
-
-impl Message {
-    pub fn read(piece: &Bytes) -> Result<Message, Malformed> {
-        let mut reader = Reader::of_frame(piece.clone())?;
-        Ok(match reader.byte()? {
-            1 => Message::Chunk,
-            2 => Message::Ack,
-            9 => Message::Adopted { successor: reader.server()? },
-            10 => Message::Caught { predecessor: reader.server()? },
-            11 => Message::Ready,
-            12 => Message::Answer { client: reader.number32()? },
-            _ => Message::Other,
-        })
-    }
-
-    /// Whether a message ends with the piece.
-    pub fn ends_with(piece: &Bytes) -> bool {
-        !matches!(Message::read(piece), Ok(Message::Chunk))
-    }
-}
-
 #[cfg(test)]
 mod tests {
     use super::*;

@@ -10,6 +10,7 @@ pub mod commands;
 pub mod digits;
 pub mod framing;
 pub mod journal;
+pub mod messages;
 pub mod moment;
 pub mod parts;
 pub mod pipe;

@@ -93,6 +93,11 @@ impl Reader {
         (0..count).map(|_| self.server()).collect()
     }
 
+    /// What isn't read yet.
+    pub fn rest(self) -> Bytes {
+        self.0
+    }
+
     pub fn is_empty(&self) -> bool {
         !self.0.has_remaining()
     }

@@ -7,6 +7,7 @@
 use bytes::Bytes;
 
 use crate::parts::{frame, Malformed, Parts, Reader};
+use crate::values::RequestName;
 
 /// What the node tells.
 #[derive(Clone, Debug, PartialEq, Eq)]
@@ -31,21 +32,6 @@ pub enum FromNode {
     /// The chain went on at the moment `begun` from a store that was recovered, whose last entry is of the moment `last`. It is
     /// told ahead of the store.
     Paused { last: u64, begun: u64 },
-}
-
-/// What a request is known by.
-#[derive(Clone, Copy, Debug, PartialEq, Eq)]
-pub struct RequestName {
-    pub client: u32,
-    pub number: u64,
-}
-
-impl RequestName {
-    /// That of a request as it is written; nothing where that is too short to be one.
-    pub fn of(request: &Bytes) -> Option<RequestName> {
-        let mut from = Reader::of(request.clone());
-        Some(RequestName { client: from.number32().ok()?, number: from.number64().ok()? })
-    }
 }
 
 /// What the gateway tells.

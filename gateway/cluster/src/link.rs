@@ -7,7 +7,8 @@ use std::sync::{Arc, Mutex};
 use std::time::Duration;
 
 use bytes::Bytes;
-use hobbychair_bytes::commands::{Message, Place};
+use hobbychair_bytes::commands::Place;
+use hobbychair_bytes::messages::Message;
 use hobbychair_bytes::parts::{Frames, FRAME_LIMIT};
 use tokio::sync::Notify;
 use tokio::time::{interval, sleep, timeout, MissedTickBehavior};

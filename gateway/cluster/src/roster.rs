@@ -5,7 +5,7 @@
 
 use std::collections::{BTreeMap, BTreeSet};
 
-use hobbychair_bytes::commands::Message;
+use hobbychair_bytes::messages::Message;
 
 use crate::records::{Chain, Line};
 

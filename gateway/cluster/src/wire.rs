@@ -4,7 +4,7 @@ use bytes::Bytes;
 
 use hobbychair_bytes::commands::Place;
 use hobbychair_bytes::parts::{frame, Malformed, Parts, Reader};
-use hobbychair_bytes::pipe::RequestName;
+use hobbychair_bytes::values::RequestName;
 
 /// The first frame of a connection isn't longer: a stranger gets no more memory.
 pub const GREETING_LIMIT: usize = 64 << 10;

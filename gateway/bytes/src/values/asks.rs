@@ -125,6 +125,24 @@ fn append_name(out: &mut Vec<u8>, name: impl Display) {
     out[start..start + 4].copy_from_slice(&length.to_le_bytes());
 }
 
+/// What a request is known by: it begins with this.
+#[derive(Clone, Copy, Debug, PartialEq, Eq)]
+pub struct RequestName {
+    pub client: u32,
+    pub number: u64,
+}
+
+impl RequestName {
+    /// That of a request as it is written; nothing where that is too short to be one.
+    pub fn of(request: &[u8]) -> Option<RequestName> {
+        RequestName::read(&mut ValueReader::of(request)).ok()
+    }
+
+    fn read(from: &mut ValueReader<'_>) -> Result<RequestName, Fault> {
+        Ok(RequestName { client: from.number32()?, number: from.number64()? })
+    }
+}
+
 /// A request of a client.
 #[derive(Clone, Debug, PartialEq, Eq)]
 pub struct StoreRequest<T = String> {
@@ -137,7 +155,7 @@ pub struct StoreRequest<T = String> {
 
 impl<'a, T: From<&'a str>> StoreRequest<T> {
     fn read(from: &mut ValueReader<'a>) -> Result<StoreRequest<T>, Fault> {
-        let (client, number) = (from.number32()?, from.number64()?);
+        let RequestName { client, number } = RequestName::read(from)?;
         let (queue, ask) = StoreAsk::read(from)?;
         Ok(StoreRequest { client, number, queue, ask })
     }

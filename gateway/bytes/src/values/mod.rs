@@ -15,7 +15,7 @@ mod tests;
 #[cfg(any(test, feature = "testing"))]
 pub mod written;
 
-pub use asks::{append_query, append_request, StoreAsk, StoreEntry, StoreRequest};
+pub use asks::{append_query, append_request, RequestName, StoreAsk, StoreEntry, StoreRequest};
 pub use fault::{BadFrame, Fault};
 pub use parts::{KeptHandings, Part, QueuePart};
 pub use reader::STORE_LIMIT;

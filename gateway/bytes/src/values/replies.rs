@@ -4,6 +4,7 @@ use std::sync::Arc;
 
 use super::reader::ValueReader;
 use super::{Fault, Receipt};
+use crate::messages::ANSWER;
 
 /// A reply of a store. `R`: what stands for the messages that a receive was handed.
 #[derive(Clone, Debug, PartialEq, Eq)]
@@ -42,9 +43,6 @@ pub(super) const DELETED: u8 = 4;
 pub(super) const CHANGED: u8 = 5;
 pub(super) const COUNTS: u8 = 6;
 pub(super) const REFUSED: u8 = 7;
-
-/// The byte of an answer among messages.
-pub(super) const ANSWER: u8 = 12;
 
 const MOST_REFUSALS: u32 = 8;
 

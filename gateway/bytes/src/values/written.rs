@@ -1,8 +1,9 @@
 //! Writes what stores answer, and stores, as bytes, for tests.
 
+use crate::messages::ANSWER;
 use crate::parts::{Parts, VERSION};
 
-use super::replies::{ANSWER, CHANGED, COUNTS, CREATED, DELETED, RECEIVED, REFUSED, REMOVED, SENT};
+use super::replies::{CHANGED, COUNTS, CREATED, DELETED, RECEIVED, REFUSED, REMOVED, SENT};
 use super::{Delivery, KeptHandings, Part, Receipt, StoreAnswer, StoreReply};
 
 impl<R> StoreReply<R> {

@@ -7,7 +7,8 @@ use std::time::{Duration, Instant};
 
 use anyhow::Result;
 use bytes::Bytes;
-use hobbychair_bytes::commands::{Command, Message, Party, Place, Response, Standing, NO_MEMORY};
+use hobbychair_bytes::commands::{Command, Party, Place, Response, Standing, NO_MEMORY};
+use hobbychair_bytes::messages::Message;
 use tokio::sync::mpsc::UnboundedReceiver;
 
 use super::gateway::{self, Beside};

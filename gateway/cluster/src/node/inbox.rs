@@ -4,7 +4,8 @@ use std::collections::VecDeque;
 
 use bytes::Bytes;
 
-use hobbychair_bytes::commands::{Command, Message, Party, Place, BEGIN_AGAIN, NOT_NEXT, UNREADABLE};
+use hobbychair_bytes::commands::{Command, Party, Place, BEGIN_AGAIN, NOT_NEXT, UNREADABLE};
+use hobbychair_bytes::messages::Message;
 
 /// The pieces of one party. They are given ahead; those that were refused are given again, in order, and so are all
 /// behind them.
@@ -57,8 +58,7 @@ impl Inbox {
     /// The chunks of a snapshot, all of whose pieces were given.
     pub fn chunks(&self, number: u64) -> Vec<Bytes> {
         let of_message = self.pieces.iter().filter(|(place, _)| place.number == number);
-        let chunk = |piece: &Bytes| matches!(Message::read(piece), Ok(Message::Chunk)).then(|| piece.slice(2..));
-        of_message.filter_map(|(_, piece)| chunk(piece)).collect()
+        of_message.filter_map(|(_, piece)| Message::chunk_of(piece)).collect()
     }
 
     /// The server has taken the piece, or refused it with a number.

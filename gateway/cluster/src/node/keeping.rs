@@ -9,6 +9,7 @@ use std::time::{Duration, Instant};
 
 use bytes::Bytes;
 use hobbychair_bytes::commands::Standing;
+use hobbychair_bytes::messages::Message;
 
 use super::Event;
 use crate::journal::{self, Entry, Folder, Head, Known, Record, Writer, Written, LONGEST_BATCH, VERSION};
@@ -16,13 +17,6 @@ use crate::records::{Chain, Cluster, DISK_HANGS};
 
 /// A disk that ends no write for so long doesn't work.
 const HANGING: Duration = Duration::from_secs(2);
-
-/// A piece with an entry for a server that stands behind (docs/WIRE.md, "A message in pieces"): the version, this byte, the
-/// entry's place, and the entry.
-const FORWARD: u8 = 0;
-
-/// The piece that ends a snapshot.
-const SNAPSHOT_ENDS: u8 = 13;
 
 /// How a node keeps its journal.
 #[derive(Clone, Debug, PartialEq, Eq)]
@@ -152,14 +146,16 @@ impl<W> Keeping<W> {
         }
         let is_next = standing.count == self.count + 1;
         let moment = standing.last;
+        let no_entry = || format!("its server has {} entries, by no message that has one", standing.count);
         match content {
             Some(request) if is_arrival && is_next => Ok(Added::Entry(Entry { moment, request: request.clone() })),
-            Some(piece) if !is_arrival => match piece.get(1) {
-                Some(&FORWARD) if is_next && piece.len() > 18 => {
-                    Ok(Added::Entry(Entry { moment, request: piece.slice(18..) }))
+            Some(piece) if !is_arrival => match Message::read(piece) {
+                Ok(Message::Forward) if is_next => {
+                    let request = Message::request_of(piece).ok_or_else(no_entry)?;
+                    Ok(Added::Entry(Entry { moment, request }))
                 }
-                Some(&SNAPSHOT_ENDS) if standing.count > self.count => Ok(Added::Store),
-                _ => Err(format!("its server has {} entries, by no message that has one", standing.count)),
+                Ok(Message::SnapshotEnds) if standing.count > self.count => Ok(Added::Store),
+                _ => Err(no_entry()),
             },
             _ => Err(format!("its server has {} entries, and had {}", standing.count, self.count)),
         }
@@ -473,12 +469,13 @@ mod tests {
         assert_eq!(added(Some(b"request"), true, 0), Ok(Added::Nothing));
         let entry = Entry { moment: 7, request: Bytes::from_static(b"request") };
         assert_eq!(added(Some(b"request"), true, 1), Ok(Added::Entry(entry.clone())));
-        let mut forward = vec![1, FORWARD];
+        // The version, the kind, the place and the moment of an entry, and the kind of what ends a snapshot.
+        let mut forward = vec![1, 0];
         forward.number64(1);
         forward.number64(7);
         forward.extend_from_slice(b"request");
         assert_eq!(added(Some(&forward), false, 1), Ok(Added::Entry(entry)));
-        assert_eq!(added(Some(&[1, SNAPSHOT_ENDS]), false, 5), Ok(Added::Store));
+        assert_eq!(added(Some(&[1, 13]), false, 5), Ok(Added::Store));
         for (content, is_arrival, count) in
             [(None, false, 1), (Some(&b"request"[..]), true, 2), (Some(&forward), false, 2), (Some(&[1, 9]), false, 1)]
         {

@@ -9,7 +9,7 @@ use std::collections::{BTreeMap, VecDeque};
 
 use bytes::Bytes;
 use hobbychair_bytes::commands::{Standing, NOT_HEAD, STREAM_ENDED};
-use hobbychair_bytes::pipe::RequestName;
+use hobbychair_bytes::values::RequestName;
 use tokio::sync::oneshot;
 
 use super::connections::Outlet;

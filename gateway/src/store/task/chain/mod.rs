@@ -12,8 +12,8 @@ use std::collections::HashMap;
 use std::time::Duration;
 
 use hobbychair_bytes::parts::{Cutter, Malformed, FRAME_LIMIT};
-use hobbychair_bytes::pipe::{FromGateway, FromNode, RequestName};
-use hobbychair_bytes::values::{StoreAnswer, StoreReply};
+use hobbychair_bytes::pipe::{FromGateway, FromNode};
+use hobbychair_bytes::values::{RequestName, StoreAnswer, StoreReply};
 use tokio::time::Instant;
 
 use super::clients::COUNTER;
