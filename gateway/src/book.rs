@@ -6,7 +6,8 @@
 use std::sync::Arc;
 use std::time::Duration;
 
-use crate::errors::SqsError;
+use hobbychair_sqs::errors::SqsError;
+
 use crate::queues::ask::{Ask, StoreName};
 use crate::queues::book::{Entry, ProgramEntry, Removal};
 use crate::queues::Queue;
@@ -210,11 +211,12 @@ async fn remove(store: &Store, place: usize, name: StoreName) -> Result<(), SqsE
 mod tests {
     use std::collections::BTreeMap;
 
+    use hobbychair_sqs::texts::QueueName;
+
     use super::*;
     use crate::limits::MESSAGE_BYTES;
     use crate::queues::book::QueueEntry;
     use crate::queues::Queues;
-    use crate::texts::QueueName;
 
     #[test]
     fn what_counts_of_queues_is_counted_as_it_is_written() {

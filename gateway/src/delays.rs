@@ -7,7 +7,8 @@
 use std::collections::HashMap;
 use std::sync::Arc;
 
-use crate::errors::SqsError;
+use hobbychair_sqs::errors::SqsError;
+
 use crate::moves::{move_due, show_again};
 use crate::queues::ask::Handed;
 use crate::queues::Queue;

@@ -3,8 +3,9 @@
 use std::collections::HashSet;
 use std::sync::Arc;
 
+use hobbychair_sqs::errors::SqsError;
+
 use crate::delays::bring_up_to_date;
-use crate::errors::SqsError;
 use crate::moves::{give_back, move_to_target};
 use crate::queues::ask::{Ask, Fate, Handed, Outcome, Reach};
 use crate::queues::Queue;

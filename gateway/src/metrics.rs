@@ -2,12 +2,12 @@
 
 use std::time::Duration;
 
+use hobbychair_sqs::action::Action;
 use prometheus::{
     Encoder, Histogram, HistogramOpts, HistogramVec, IntCounter, IntCounterVec, IntGauge, IntGaugeVec, Opts, Registry,
     TextEncoder,
 };
 
-use crate::action::Action;
 use crate::store::Figures;
 
 /// Bounds of the histogram of latencies, in seconds. Long polls take up to 20.

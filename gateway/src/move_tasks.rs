@@ -4,17 +4,17 @@ use std::collections::BTreeMap;
 use std::sync::Arc;
 use std::time::Duration;
 
+use hobbychair_sqs::access::Keys;
+use hobbychair_sqs::action::Action;
+use hobbychair_sqs::errors::SqsError;
+use hobbychair_sqs::texts::QueueName;
 use uuid::Uuid;
 
-use crate::access::Keys;
-use crate::action::Action;
-use crate::errors::SqsError;
 use crate::moves::move_each;
 use crate::queues::ask::{Handed, TableChange};
 use crate::queues::tasks::{MoveTask, Status};
 use crate::queues::Queue;
 use crate::store::Store;
-use crate::texts::QueueName;
 
 /// The keys that say where a task may move messages to; none where everybody may do everything.
 pub type Rights = Option<Arc<Keys>>;

@@ -13,16 +13,16 @@ use std::time::Duration;
 
 use hobbychair_bytes::digits::hex;
 use hobbychair_bytes::values::Receipt;
+use hobbychair_sqs::envelope::{message_id, EnvelopeHead};
+use hobbychair_sqs::errors::SqsError;
+use hobbychair_sqs::handles::Origin;
+use hobbychair_sqs::texts::{DedupId, GroupId, QueueKind};
 
-use crate::errors::SqsError;
-use crate::handles::Origin;
-use crate::messages::{message_id, EnvelopeHead};
 use crate::parts;
 use crate::queues::ask::{Ask, Cause, Changer, Fate, Handed, PartsCause};
 use crate::queues::copies::CopyId;
 use crate::queues::Queue;
 use crate::store::{Copy, Held, Store};
-use crate::texts::{DedupId, GroupId, QueueKind};
 
 /// So long a message waits for its next deletion, where one failed after it was copied.
 const PAUSE: Duration = Duration::from_secs(1);

@@ -8,10 +8,11 @@ use std::future::Future;
 use std::sync::Arc;
 use std::time::Duration;
 
+use hobbychair_sqs::envelope::{parts_of, EnvelopeHead};
+use hobbychair_sqs::errors::SqsError;
+
 use crate::budget::Share;
 use crate::delays;
-use crate::errors::SqsError;
-use crate::messages::{parts_of, EnvelopeHead};
 use crate::queues::ask::{Ask, Handed, Outcome, PartsAsk, PartsCause};
 use crate::queues::Queue;
 use crate::store::{spawn_wanted, Answer, Operation, Store};

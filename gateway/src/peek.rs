@@ -6,6 +6,11 @@ use std::sync::Arc;
 
 use bytes::Bytes;
 use hobbychair_bytes::values::Receipt;
+use hobbychair_sqs::errors::SqsError;
+use hobbychair_sqs::texts::QueueName;
+use hobbychair_sqs::wire::requests::Shown;
+use hobbychair_sqs::wire::responses::ReceivedMessage;
+use hobbychair_sqs::wire::{self, Protocol, Reply};
 use hyper::header::{HeaderMap, HeaderValue, ACCEPT, CONTENT_TYPE};
 use hyper::{Response, StatusCode, Uri};
 use serde_json::{json, Map, Value};
@@ -14,15 +19,10 @@ use uuid::Uuid;
 
 use crate::actions::{show, Owner};
 use crate::budget::{Budget, Share};
-use crate::errors::SqsError;
 use crate::parts::{self, Read};
 use crate::queues::ask::Handed;
 use crate::queues::{Chunk, Cursor, Peeked, Queue, Visibility};
 use crate::store::Store;
-use crate::texts::QueueName;
-use crate::wire::requests::Shown;
-use crate::wire::responses::ReceivedMessage;
-use crate::wire::{self, Protocol, Reply};
 
 /// The path, behind which a region, an account and a queue may stand.
 pub const PATH: &str = "/_aws/sqs/messages";

@@ -3,12 +3,12 @@
 use std::sync::Arc;
 use std::time::Duration;
 
+use hobbychair_sqs::errors::SqsError;
 use tokio::sync::oneshot;
 use tokio::time::Instant;
 
 use crate::deliveries::{ask_all, see_to, Seen};
 use crate::ending::Ending;
-use crate::errors::SqsError;
 use crate::presence::Presence;
 use crate::queues::ask::{Ask, Outcome};
 use crate::queues::waiting::{AnswerMemory, Poll, PollResult, Room};

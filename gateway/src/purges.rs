@@ -4,7 +4,8 @@
 use std::sync::Arc;
 use std::time::Duration;
 
-use crate::errors::SqsError;
+use hobbychair_sqs::errors::SqsError;
+
 use crate::queues::ask::TableChange;
 use crate::queues::Queue;
 use crate::retention::delete_next;

@@ -6,14 +6,14 @@ use std::sync::{Arc, Mutex, MutexGuard, PoisonError};
 use std::time::{Duration, Instant};
 
 use hobbychair_bytes::values::Receipt;
+use hobbychair_sqs::action::Action;
+use hobbychair_sqs::wire::Reply;
 use sha2::{Digest, Sha256};
 use tokio::sync::watch;
 
-use crate::action::Action;
 use crate::clock::Clock;
 use crate::presence::{Presence, Present};
 use crate::queues::Queue;
-use crate::wire::Reply;
 
 /// So long an answer is kept.
 const KEPT: Duration = Duration::from_secs(60);

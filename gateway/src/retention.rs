@@ -4,8 +4,8 @@ use std::sync::Arc;
 use std::time::Duration;
 
 use hobbychair_bytes::moment::Moment;
+use hobbychair_sqs::errors::SqsError;
 
-use crate::errors::SqsError;
 use crate::queues::book::Entry;
 use crate::queues::Queue;
 use crate::store::{Held, Operation, Store};

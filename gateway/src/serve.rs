@@ -11,11 +11,11 @@ use std::time::Duration;
 use anyhow::{anyhow, bail, Context, Result};
 use hobbychair_bytes::moment::Moment;
 use hobbychair_cluster::identity::{Identity, IdentityFiles, Role};
+use hobbychair_sqs::access::Keys;
 use tokio::net::TcpListener;
 use tokio::signal::unix::{signal, Signal, SignalKind};
 use tokio::task::JoinHandle;
 
-use crate::access::Keys;
 use crate::actions::{Actions, Owner, Pauses};
 use crate::admin::{Admin, Health};
 use crate::book;

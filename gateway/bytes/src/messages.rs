@@ -1,4 +1,4 @@
-//! Messages of servers and the master, as far as others than these read them (docs/WIRE.md, "Messages").
+//! Messages of servers and the master, as far as others than these read them (docs/WIRE.md, "A message in pieces").
 
 use bytes::Bytes;
 

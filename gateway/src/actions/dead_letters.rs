@@ -1,13 +1,16 @@
 //! Which queues are whose dead-letter queues.
 
+use hobbychair_sqs::action::Action;
+use hobbychair_sqs::attributes::GivenAttributes;
+use hobbychair_sqs::errors::SqsError;
+use hobbychair_sqs::redrive::{
+    refusal, QueueArn, RedriveAllowPolicy, RedrivePolicy, REDRIVE_ALLOW_POLICY, REDRIVE_POLICY,
+};
+use hobbychair_sqs::texts::QueueName;
+use hobbychair_sqs::wire::tokens::token_behind;
+use hobbychair_sqs::wire::Response;
+
 use super::{Actions, Caller, Performed};
-use crate::action::Action;
-use crate::attributes::GivenAttributes;
-use crate::errors::SqsError;
-use crate::redrive::{refusal, QueueArn, RedriveAllowPolicy, RedrivePolicy, REDRIVE_ALLOW_POLICY, REDRIVE_POLICY};
-use crate::texts::QueueName;
-use crate::wire::tokens::token_behind;
-use crate::wire::Response;
 
 impl Actions {
     /// Tests a policy that is given for the queue of this name: its target has to be another queue of the same kind that

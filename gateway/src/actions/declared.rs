@@ -2,12 +2,13 @@
 
 use std::sync::Arc;
 
+use hobbychair_sqs::errors::SqsError;
+use hobbychair_sqs::wire::{Incoming, Protocol};
+
 use super::{Actions, Caller};
 use crate::budget::Budget;
 use crate::config::DeclaredQueue;
-use crate::errors::SqsError;
 use crate::presence::Presence;
-use crate::wire::{Incoming, Protocol};
 
 impl Actions {
     /// Creates the declared queues that aren't there, as a client would by CreateQueue. What can't be created is

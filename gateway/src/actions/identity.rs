@@ -1,7 +1,8 @@
 //! Who asks.
 
+use hobbychair_sqs::wire::Response;
+
 use super::{Actions, Caller, Performed};
-use crate::wire::Response;
 
 impl Actions {
     /// The key that signed, as a user of the one account; the account itself where nobody looks at signatures (Security

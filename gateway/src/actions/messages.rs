@@ -2,21 +2,21 @@
 
 use std::sync::Arc;
 
+use hobbychair_sqs::attributes::LONGEST_MESSAGE;
+use hobbychair_sqs::digests::{md5_of_attributes, md5_of_text};
+use hobbychair_sqs::envelope::{message_id, Envelope, MessageAttributes, Metadata, TRACE_HEADER};
+use hobbychair_sqs::errors::SqsError;
+use hobbychair_sqs::texts::{Body, DedupId, GroupId, QueueKind, QueueName};
+use hobbychair_sqs::wire::requests::{Batch, NewMessage, Sending, VisibilityChange};
+use hobbychair_sqs::wire::responses::{Failed, Sent, Succeeded};
+use hobbychair_sqs::wire::Response;
 use uuid::Uuid;
 
 use super::{Actions, Caller, Performed};
-use crate::attributes::LONGEST_MESSAGE;
-use crate::digests::{md5_of_attributes, md5_of_text};
-use crate::errors::SqsError;
-use crate::messages::{message_id, Envelope, MessageAttributes, Metadata, TRACE_HEADER};
 use crate::parts;
 use crate::queues::ask::{Ask, Cause, Changer, Outcome};
 use crate::queues::Queue;
 use crate::store::{Answer, Operation};
-use crate::texts::{Body, DedupId, GroupId, QueueKind, QueueName};
-use crate::wire::requests::{Batch, NewMessage, Sending, VisibilityChange};
-use crate::wire::responses::{Failed, Sent, Succeeded};
-use crate::wire::Response;
 
 impl Actions {
     pub(super) async fn send(

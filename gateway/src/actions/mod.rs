@@ -13,21 +13,21 @@ use std::hash::{Hash, Hasher};
 use std::sync::Arc;
 
 use hobbychair_bytes::values::Receipt;
+use hobbychair_sqs::access::Identity;
+use hobbychair_sqs::action::Action;
+use hobbychair_sqs::errors::SqsError;
+use hobbychair_sqs::texts::QueueName;
+use hobbychair_sqs::wire::{Request, Response};
 use tokio::sync::{Mutex, Semaphore};
 use uuid::Uuid;
 
-use crate::access::Identity;
-use crate::action::Action;
 use crate::budget::Share;
 use crate::ending::Ending;
-use crate::errors::SqsError;
 use crate::metrics::Metrics;
 use crate::move_tasks::Rights;
 use crate::presence::Presence;
 use crate::queues::Queue;
 use crate::store::Store;
-use crate::texts::QueueName;
-use crate::wire::{Request, Response};
 pub use receiving::show;
 
 /// Who asks.

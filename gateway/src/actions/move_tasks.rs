@@ -3,21 +3,21 @@
 use std::sync::Arc;
 
 use hmac::{Hmac, Mac};
+use hobbychair_sqs::action::Action;
+use hobbychair_sqs::errors::SqsError;
+use hobbychair_sqs::redrive::QueueArn;
+use hobbychair_sqs::texts::QueueName;
+use hobbychair_sqs::wire::requests::{StartMove, TaskHandle};
+use hobbychair_sqs::wire::responses::ListedTask;
+use hobbychair_sqs::wire::Response;
 use sha2::Sha256;
 use uuid::{Builder, Uuid};
 
 use super::{Actions, Caller, Performed};
-use crate::action::Action;
-use crate::errors::SqsError;
 use crate::move_tasks::run;
 use crate::queues::ask::TableChange;
 use crate::queues::tasks::{MoveTask, Status};
 use crate::queues::Queue;
-use crate::redrive::QueueArn;
-use crate::texts::QueueName;
-use crate::wire::requests::{StartMove, TaskHandle};
-use crate::wire::responses::ListedTask;
-use crate::wire::Response;
 
 /// What tells the digests of ids of tasks from all others by the same secret.
 const TASK: &[u8] = b"task";

@@ -1,12 +1,13 @@
 //! Permissions, which are statements in the policy of a queue.
 
+use hobbychair_sqs::attributes::GivenAttributes;
+use hobbychair_sqs::errors::SqsError;
+use hobbychair_sqs::policy::{Permission, Policy};
+use hobbychair_sqs::texts::QueueName;
+use hobbychair_sqs::wire::Response;
+
 use super::{Actions, Caller, Performed};
-use crate::attributes::GivenAttributes;
-use crate::errors::SqsError;
-use crate::policy::{Permission, Policy};
 use crate::queues::ask::TableChange;
-use crate::texts::QueueName;
-use crate::wire::Response;
 
 impl Actions {
     pub(super) async fn add_permission(

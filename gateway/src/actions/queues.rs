@@ -2,20 +2,21 @@
 
 use std::sync::Arc;
 
+use hobbychair_sqs::attributes::{GivenAttributes, QueueAttributes, WantedAttributes, COUNTS};
+use hobbychair_sqs::errors::SqsError;
+use hobbychair_sqs::texts::QueueName;
+use hobbychair_sqs::wire::requests::{test_count_of_tags, Tags};
+use hobbychair_sqs::wire::tokens::token_behind;
+use hobbychair_sqs::wire::Response;
+
 use super::{Actions, Caller, Pauses, Performed, LONGEST_PAGE};
-use crate::attributes::{GivenAttributes, QueueAttributes, WantedAttributes, COUNTS};
 use crate::book;
 use crate::delays::bring_up_to_date;
-use crate::errors::SqsError;
 use crate::purges::purge;
 use crate::queues::ask::{Outcome, TableChange};
 use crate::queues::book::QueueEntry;
 use crate::queues::Queue;
 use crate::store::Answer;
-use crate::texts::QueueName;
-use crate::wire::requests::{test_count_of_tags, Tags};
-use crate::wire::tokens::token_behind;
-use crate::wire::Response;
 
 /// So long a queue can't be purged again, in milliseconds (API Reference, PurgeQueue, `PurgeQueueInProgress`).
 const PURGE_PAUSE: u64 = 60_000;

@@ -3,22 +3,23 @@
 use std::sync::Arc;
 use std::time::Duration;
 
+use hobbychair_sqs::digests::{md5_of_attributes, md5_of_text};
+use hobbychair_sqs::envelope::{EnvelopeBody, MessageAttributes, Metadata};
+use hobbychair_sqs::errors::SqsError;
+use hobbychair_sqs::handles::Handle;
+use hobbychair_sqs::texts::{QueueKind, QueueName};
+use hobbychair_sqs::wire::requests::{Receive, Shown, SystemAttribute};
+use hobbychair_sqs::wire::responses::ReceivedMessage;
+use hobbychair_sqs::wire::Response;
+
 use super::messages::sequence_number;
 use super::{Actions, Caller, Owner, Performed};
 use crate::deliveries::{self, has_most_in_flight, Delivered};
-use crate::digests::{md5_of_attributes, md5_of_text};
-use crate::errors::SqsError;
-use crate::handles::Handle;
-use crate::messages::{EnvelopeBody, MessageAttributes, Metadata};
 use crate::parts;
 use crate::polling::{self, Waiter};
 use crate::queues::ask::{Ask, Changer, Handed, Reach};
 use crate::queues::waiting::{AnswerMemory, Room};
 use crate::queues::Queue;
-use crate::texts::{QueueKind, QueueName};
-use crate::wire::requests::{Receive, Shown, SystemAttribute};
-use crate::wire::responses::ReceivedMessage;
-use crate::wire::Response;
 
 /// The `SenderId` of messages whose senders signed with no key that anybody looked at.
 const SENDER: &str = "AIDAHOBBYCHAIR0000000";

@@ -19,6 +19,8 @@ use anyhow::{Context, Result};
 use bytes::Bytes;
 use hobbychair_cluster::acting::Follower;
 use hobbychair_cluster::identity::{IdentityFiles, Role};
+use hobbychair_sqs::action::Action;
+use hobbychair_sqs::errors::SqsError;
 use hyper::header::{HeaderValue, CONNECTION};
 use hyper::server::conn::Http;
 use hyper::service::service_fn;
@@ -30,23 +32,20 @@ use tokio::sync::Semaphore;
 use tokio::time::{timeout, Instant};
 use uuid::Uuid;
 
-use crate::action::Action;
-use crate::admin::serve_operators;
-use crate::budget::{Budget, Share};
-use crate::config::Address;
-use crate::ending::{End, Ending};
-use crate::errors::SqsError;
-use crate::http::{bodies, is_of_this_machine, listen, protocol_of, refused, to_be_written, Places};
-use crate::http::{Progress, Watched, LONGEST_HEAD};
-use crate::misuse::Misuse;
-use crate::serve::{listen_for_operators, log_read_again, notify_supervisor, say};
-use crate::tls::{Certificate, LONGEST_HANDSHAKE};
-
 use self::contact::Contact;
 use self::headers::{Asked, Came};
 use self::operators::{Figures, Operators};
 use self::passing::Passing;
 use self::testing::Testing;
+use crate::admin::serve_operators;
+use crate::budget::{Budget, Share};
+use crate::config::Address;
+use crate::ending::{End, Ending};
+use crate::http::{bodies, is_of_this_machine, listen, protocol_of, refused, to_be_written, Places};
+use crate::http::{Progress, Watched, LONGEST_HEAD};
+use crate::misuse::Misuse;
+use crate::serve::{listen_for_operators, log_read_again, notify_supervisor, say};
+use crate::tls::{Certificate, LONGEST_HANDSHAKE};
 
 /// A request is whole so long after its first byte.
 const LONGEST_REQUEST: Duration = Duration::from_secs(30);

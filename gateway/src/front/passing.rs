@@ -10,21 +10,20 @@ use bytes::{Bytes, BytesMut};
 use hobbychair_cluster::acting::{Acting, Follower};
 use hobbychair_cluster::identity::{Identity, Role};
 use hobbychair_cluster::transport::Connector;
+use hobbychair_sqs::errors::SqsError;
 use hyper::body::HttpBody;
 use hyper::{Body, Client, Request, Response, StatusCode, Uri};
 use thiserror::Error;
 use tokio::sync::Mutex;
 use tokio::time::{sleep, sleep_until, timeout, Instant};
 
-use crate::budget::Share;
-use crate::calls::LONGEST_BODY;
-use crate::errors::SqsError;
-
 use super::contact::Contact;
 use super::headers::{as_answered, room_needed, time_of, Asked, Try};
 use super::operators::Figures;
 use super::streams::Streams;
 use super::times::{milliseconds, Times};
+use crate::budget::Share;
+use crate::calls::LONGEST_BODY;
 
 /// A request is asked again until so long after it came.
 const ASKING: Duration = Duration::from_secs(20);

@@ -5,10 +5,10 @@ use std::sync::Arc;
 use std::time::SystemTime;
 
 use anyhow::Result;
+use hobbychair_sqs::access::Keys;
+use hobbychair_sqs::action::Action;
 use hyper::http::request::Parts;
 
-use crate::access::Keys;
-use crate::action::Action;
 use crate::http::{incoming, protocol_of, signable, Unread};
 
 /// Tests requests before they are passed on.

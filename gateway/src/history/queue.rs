@@ -3,11 +3,11 @@
 use std::collections::{BTreeMap, HashMap, VecDeque};
 
 use hobbychair_bytes::characters::is_short_and_printable;
+use hobbychair_sqs::digests::md5_of_text;
+use hobbychair_sqs::texts::DedupId;
 
 use super::finding::{Finding, Judged, Rule};
 use super::line::{number, objects, text, Line, Members};
-use crate::digests::md5_of_text;
-use crate::texts::DedupId;
 
 /// A send with the id of an earlier one adds nothing for so long, and a receive with an earlier attempt id gives the same.
 const REMEMBERED: u64 = 300_000;

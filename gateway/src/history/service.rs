@@ -2,12 +2,12 @@
 
 use std::collections::{BTreeSet, HashMap, HashSet};
 
+use hobbychair_sqs::texts::{QueueKind, QueueName};
 use serde_json::Value;
 
 use super::finding::{Finding, Judged, Rule};
 use super::line::{attributes, bare, objects, queue_of, text, Line, Members, Refusal};
 use super::queue::Queue;
-use crate::texts::{QueueKind, QueueName};
 
 /// So long the name of a removed queue isn't free, and so long a removal may take.
 const REMOVING: u64 = 60_000;

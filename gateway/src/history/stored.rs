@@ -1,10 +1,10 @@
 //! How a line of a history has what a store is asked and answers (`docs/QUEUES.md`).
 
 use hobbychair_bytes::values::{Delivery, Receipt, StoreAsk, StoreReply, StoreRequest};
+use hobbychair_sqs::digests::md5_of_text;
 use serde_json::{json, Value};
 
 use super::line::{attributes, number, text, Line, Members, OfStore, Refusal};
-use crate::digests::md5_of_text;
 
 /// The numbers of refusals.
 pub const NO_QUEUE: u32 = 1;

@@ -4,13 +4,13 @@ use std::pin::Pin;
 use std::task::Poll;
 
 use bytes::{Bytes, BytesMut};
+use hobbychair_sqs::attributes::LONGEST_MESSAGE;
+use hobbychair_sqs::errors::SqsError;
 use hyper::body::HttpBody;
 use hyper::Body;
 use tokio::time::{timeout_at, Instant};
 
-use crate::attributes::LONGEST_MESSAGE;
 use crate::budget::Share;
-use crate::errors::SqsError;
 
 /// The longest body of a request, in bytes: JSON writes one byte of a message as six at most, and 64 KiB are for the
 /// rest.

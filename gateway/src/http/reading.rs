@@ -1,15 +1,15 @@
 //! What of an HTTP request says what is asked, and why it may not be read.
 
 use bytes::Bytes;
+use hobbychair_sqs::access::Signable;
+use hobbychair_sqs::errors::SqsError;
+use hobbychair_sqs::wire::{Incoming, Protocol};
 use hyper::header::{HeaderValue, ALLOW, CONNECTION, EXPECT, TRANSFER_ENCODING};
 use hyper::http::request::Parts;
 use hyper::{Method, Response, StatusCode};
 use uuid::Uuid;
 
 use super::{address, refused, text_of, TARGET};
-use crate::access::Signable;
-use crate::errors::SqsError;
-use crate::wire::{Incoming, Protocol};
 
 /// Why a request isn't performed.
 pub enum Unread {

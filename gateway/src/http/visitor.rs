@@ -6,7 +6,7 @@ use std::sync::OnceLock;
 use hyper::header::{HeaderMap, HeaderName, HeaderValue, AUTHORIZATION, HOST, ORIGIN};
 use hyper::{Method, Uri};
 
-use crate::errors::SqsError;
+use hobbychair_sqs::errors::SqsError;
 
 /// The names by which the gateway is reached, beside addresses and `localhost`.
 #[derive(Clone, Debug, Default)]

@@ -4,11 +4,11 @@ use std::collections::{BTreeMap, HashMap};
 use std::sync::{Arc, Mutex, MutexGuard, PoisonError, Weak};
 
 use hobbychair_bytes::moment::Moment;
+use hobbychair_sqs::handles::Mark;
 use tokio::sync::Notify;
 
 use super::Queue;
 use crate::clock::Clock;
-use crate::handles::Mark;
 
 /// When messages are due, and of which queues: the first of each.
 #[derive(Default)]

@@ -6,15 +6,15 @@ use std::sync::Arc;
 
 use hobbychair_bytes::moment::Moment;
 use hobbychair_bytes::values::Receipt;
+use hobbychair_sqs::attributes::GivenAttributes;
+use hobbychair_sqs::envelope::{read_envelope, Envelope};
+use hobbychair_sqs::handles::Origin;
+use hobbychair_sqs::texts::{AttemptId, DedupId, GroupId};
 use serde::{Deserialize, Serialize};
 use uuid::Uuid;
 
 use super::book::Entry;
-use crate::attributes::GivenAttributes;
-use crate::handles::Origin;
-use crate::messages::{read_envelope, Envelope};
 use crate::queues::tasks::MoveTask;
-use crate::texts::{AttemptId, DedupId, GroupId};
 
 /// The name under which a queue stands in the store: a number, and another one each time. Queues that have the parts of
 /// large messages have numbers of their own, and so have books. One that has what is delayed has that of the queue beside

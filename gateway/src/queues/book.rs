@@ -6,14 +6,14 @@ use std::collections::{BTreeMap, BTreeSet};
 use std::sync::{Mutex, MutexGuard, PoisonError};
 
 use hobbychair_bytes::moment::Moment;
+use hobbychair_sqs::attributes::QueueAttributes;
+use hobbychair_sqs::texts::{AttemptId, QueueName};
 use serde::{Deserialize, Serialize};
 use uuid::Uuid;
 
 use super::ask::StoreName;
-use crate::attributes::QueueAttributes;
 use crate::limits::{MESSAGE_BYTES, STORED_MESSAGE_BYTES};
 use crate::queues::tasks::MoveTask;
-use crate::texts::{AttemptId, QueueName};
 
 /// What an entry says.
 #[derive(Clone, Debug, PartialEq, Eq, Serialize, Deserialize)]
@@ -317,9 +317,9 @@ impl LeftOver {
 #[cfg(test)]
 mod tests {
     use hobbychair_bytes::values::STORE_LIMIT;
+    use hobbychair_sqs::texts::QueueKind;
 
     use super::*;
-    use crate::texts::QueueKind;
 
     #[test]
     fn the_longest_entry_of_a_queue_fits_into_the_store() {
@@ -333,7 +333,7 @@ mod tests {
             ("KmsMasterKeyId", "k".repeat(2_048)),
         ];
         let given: Vec<_> = given.into_iter().map(|(name, value)| (name.to_string(), value)).collect();
-        let given = crate::attributes::GivenAttributes::read(QueueKind::Fifo, &given).unwrap();
+        let given = hobbychair_sqs::attributes::GivenAttributes::read(QueueKind::Fifo, &given).unwrap();
         let attributes = QueueAttributes::for_creation(QueueKind::Fifo, &given).unwrap();
         let tags = (0..50).map(|place| (format!("{place:0>2}{}", "\u{10400}".repeat(126)), "\u{10400}".repeat(256)));
         let name = QueueName::parse(&format!("{}.fifo", "q".repeat(75))).unwrap();

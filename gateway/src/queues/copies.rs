@@ -8,7 +8,7 @@ use hobbychair_bytes::digits::{bytes_of_hex, hex};
 use sha2::Sha256;
 use uuid::Uuid;
 
-use crate::handles::Origin;
+use hobbychair_sqs::handles::Origin;
 
 /// A deduplication id that says of which message a send is the copy. What makes it known from those of clients is made with
 /// a secret of the program that has the copy.
@@ -83,8 +83,9 @@ impl Copies {
 
 #[cfg(test)]
 mod tests {
+    use hobbychair_sqs::texts::DedupId;
+
     use super::*;
-    use crate::texts::DedupId;
 
     #[test]
     fn the_id_of_a_copy_says_of_what_it_is_one_and_no_client_can_make_it() {

@@ -10,6 +10,9 @@ use std::sync::Arc;
 
 use hobbychair_bytes::moment::Moment;
 use hobbychair_bytes::values::{Fault, Part, QueuePart, Receipt, StoreReader};
+use hobbychair_sqs::envelope::EnvelopeHead;
+use hobbychair_sqs::handles::Origin;
+use hobbychair_sqs::texts::{fingerprint_of, AttemptId, CallKey};
 use thiserror::Error;
 
 use super::ask::StoreName;
@@ -17,11 +20,8 @@ use super::book::{form_said_by, size_of_text, AttemptEntry, AttemptRequest, Entr
 use super::groups::Group;
 use super::shards::Shard;
 use super::{Queue, Queues};
-use crate::handles::Origin;
-use crate::messages::EnvelopeHead;
 use crate::queues::copies::CopyId;
 use crate::queues::tasks::MoveTask;
-use crate::texts::{fingerprint_of, AttemptId, CallKey};
 
 /// Why there are no tables of a store's bytes.
 #[derive(Debug, Error)]

@@ -23,14 +23,14 @@ use std::sync::{Arc, Mutex, MutexGuard, OnceLock, PoisonError, RwLock, Weak};
 
 use hobbychair_bytes::moment::Moment;
 use hobbychair_bytes::values::{Receipt, StoreReply};
+use hobbychair_sqs::envelope::{message_id, own_id};
+use hobbychair_sqs::errors::SqsError;
+use hobbychair_sqs::handles::{Handle, HandleKey, Mark, Origin};
+use hobbychair_sqs::texts::{QueueKind, QueueName};
 use tokio::sync::Notify;
 use uuid::Uuid;
 
-use crate::errors::SqsError;
-use crate::handles::{Handle, HandleKey, Mark, Origin};
 use crate::limits::STORED_NAME_BYTES;
-use crate::messages::{message_id, own_id};
-use crate::texts::{QueueKind, QueueName};
 use alarms::Alarms;
 use ask::{Ask, Cause, Outcome, StoreName, TableChange};
 use book::{size_of_text, Books, Entry, LeftOver, ProgramEntry, QueueEntry, Removal};

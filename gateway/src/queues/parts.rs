@@ -6,12 +6,12 @@ use std::sync::{Mutex, MutexGuard, PoisonError};
 
 use hobbychair_bytes::moment::Moment;
 use hobbychair_bytes::values::StoreReply;
+use hobbychair_sqs::errors::SqsError;
 use tokio::sync::Notify;
 
 use super::ask::{Outcome, PartsAsk};
 use super::shards::Shards;
 use super::REMOVAL_PAUSE;
-use crate::errors::SqsError;
 
 /// A queue that has parts.
 #[derive(Debug, Default)]

@@ -1,6 +1,6 @@
 //! Which of several programs has a queue.
 
-use crate::texts::QueueName;
+use hobbychair_sqs::texts::QueueName;
 
 /// The most programs that can share the queues.
 const MOST: u32 = 16;

@@ -4,7 +4,7 @@ use hobbychair_bytes::moment::Moment;
 use serde::{Deserialize, Serialize};
 use uuid::Uuid;
 
-use crate::texts::QueueName;
+use hobbychair_sqs::texts::QueueName;
 
 /// How a task stands (API Reference, ListMessageMoveTasks, `Status`).
 #[derive(Clone, Copy, Debug, PartialEq, Eq, Serialize, Deserialize)]

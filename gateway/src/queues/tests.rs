@@ -6,6 +6,9 @@ use std::collections::BTreeSet;
 use hobbychair_bytes::moment::Moment;
 use hobbychair_bytes::seeded::check;
 use hobbychair_bytes::values::{Delivery, Receipt, StoreReply};
+use hobbychair_sqs::attributes::{GivenAttributes, QueueAttributes};
+use hobbychair_sqs::envelope::Envelope;
+use hobbychair_sqs::texts::{DedupId, GroupId, QueueKind, QueueName};
 use proptest::prelude::*;
 use proptest::sample::Index;
 use proptest::test_runner::TestCaseResult;
@@ -13,10 +16,7 @@ use proptest::test_runner::TestCaseResult;
 use super::ask::{Ask, Cause, Changer, Outcome, Reach, StoreName, TableChange};
 use super::book::{Entry, QueueEntry};
 use super::State;
-use crate::attributes::{GivenAttributes, QueueAttributes};
-use crate::messages::Envelope;
 use crate::queues::jumps::Jumps;
-use crate::texts::{DedupId, GroupId, QueueKind, QueueName};
 
 #[derive(Clone, Debug)]
 struct Message {

@@ -3,12 +3,12 @@
 use std::collections::VecDeque;
 use std::sync::{Arc, Mutex, MutexGuard, PoisonError};
 
+use hobbychair_sqs::errors::SqsError;
 use tokio::sync::oneshot;
 use tokio::time::Instant;
 
 use super::ask::{Ask, Handed};
 use crate::budget::Share;
-use crate::errors::SqsError;
 use crate::presence::Presence;
 
 /// What a receive that waited is handed.

@@ -70,12 +70,12 @@ mod tests {
     use std::sync::Arc;
 
     use hobbychair_bytes::values::Receipt;
+    use hobbychair_sqs::envelope::Envelope;
+    use hobbychair_sqs::texts::{DedupId, GroupId};
 
     use super::*;
-    use crate::messages::Envelope;
     use crate::queues::ask::{Cause, Changer, PartsCause, Reach};
     use crate::queues::book::{Entry, ProgramEntry};
-    use crate::texts::{DedupId, GroupId};
 
     const QUEUE: StoreName = StoreName(7);
 

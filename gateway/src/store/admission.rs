@@ -4,8 +4,8 @@ use std::sync::atomic::{AtomicBool, AtomicU64, Ordering};
 use std::sync::Arc;
 
 use hobbychair_bytes::moment::Moment;
+use hobbychair_sqs::errors::SqsError;
 
-use crate::errors::SqsError;
 use crate::limits::{Bound, GONE_NAME_BYTES, MESSAGE_BYTES, QUEUE_BYTES};
 use crate::queues::ask::{Ask, Cause, PartsAsk, PartsCause};
 use crate::queues::book::Entry;
@@ -126,12 +126,13 @@ impl Admission {
 mod tests {
     use std::collections::BTreeMap;
 
+    use hobbychair_sqs::envelope::Envelope;
+    use hobbychair_sqs::handles::Origin;
+    use hobbychair_sqs::texts::{DedupId, GroupId, QueueName};
+
     use super::*;
-    use crate::handles::Origin;
-    use crate::messages::Envelope;
     use crate::queues::ask::{Reach, StoreName};
     use crate::queues::book::QueueEntry;
-    use crate::texts::{DedupId, GroupId, QueueName};
 
     #[test]
     fn a_large_queue_gets_no_tags_where_memory_is_full_and_nobody_waits_for_himself() {

@@ -5,22 +5,22 @@ use std::sync::Arc;
 
 use hobbychair_bytes::moment::Moment;
 use hobbychair_bytes::values::{Receipt, StoreReply};
+use hobbychair_sqs::attributes::GivenAttributes;
+use hobbychair_sqs::envelope::{parts_of, Envelope, EnvelopeHead};
+use hobbychair_sqs::errors::SqsError;
+use hobbychair_sqs::handles::Origin;
+use hobbychair_sqs::texts::{AttemptId, DedupId, GroupId, QueueKind, QueueName};
 use proptest::prelude::*;
 use proptest::sample::{select, Index};
 use uuid::Uuid;
 
 use super::by_rules::StoreByRules;
-use crate::attributes::GivenAttributes;
-use crate::errors::SqsError;
-use crate::handles::Origin;
-use crate::messages::{parts_of, Envelope, EnvelopeHead};
 use crate::queues::ask::{Ask, Cause, Changer, Handed, Outcome, PartsAsk, PartsCause, Reach, StoreName, TableChange};
 use crate::queues::book::{Entry, ProgramEntry, QueueEntry};
 use crate::queues::copies::CopyId;
 use crate::queues::shards::Shards;
 use crate::queues::tasks::{MoveTask, Status};
 use crate::queues::{Queue, Queues};
-use crate::texts::{AttemptId, DedupId, GroupId, QueueKind, QueueName};
 
 const NAMES: [&str; 4] = ["a", "b.fifo", "c", "d.fifo"];
 

@@ -15,19 +15,19 @@ use std::sync::Arc;
 
 use hobbychair_bytes::moment::Moment;
 use hobbychair_bytes::values::Receipt;
+use hobbychair_sqs::errors::SqsError;
+use hobbychair_sqs::handles::{HandleKey, Mark};
+use hobbychair_sqs::texts::{AttemptId, QueueKind, QueueName};
 use tokio::sync::{mpsc, oneshot};
 use tokio::task::JoinHandle;
 use uuid::Uuid;
 
 use crate::budget::Share;
 use crate::clock::Clock;
-use crate::errors::SqsError;
-use crate::handles::{HandleKey, Mark};
 use crate::queues::ask::{Ask, Cause, Handed, Outcome, PartsAsk, Reach, StoreName, TableChange};
 use crate::queues::book::Entry;
 use crate::queues::shards::Shards;
 use crate::queues::{Queue, Queues};
-use crate::texts::{AttemptId, QueueKind, QueueName};
 use admission::Admission;
 pub use beside_node::{take_up as take_up_from_node, wait_for as wait_beside_node, BesideNodeError};
 use figures::Counters;
@@ -584,10 +584,11 @@ type Holds = std::collections::HashMap<Mark, Hold>;
 
 #[cfg(test)]
 mod tests {
+    use hobbychair_sqs::envelope::Envelope;
+    use hobbychair_sqs::handles::Origin;
+    use hobbychair_sqs::texts::{DedupId, GroupId};
+
     use super::*;
-    use crate::handles::Origin;
-    use crate::messages::Envelope;
-    use crate::texts::{DedupId, GroupId};
 
     #[test]
     fn a_copy_that_has_room_has_none_before_it_in_its_run_that_has_none() {

@@ -5,9 +5,9 @@ use std::rc::Rc;
 use std::sync::Arc;
 
 use hobbychair_bytes::values::{Delivery, QueuePart, Receipt, StoreReply};
+use hobbychair_sqs::texts::DedupId;
 
 use crate::history::stored::{BAD_RECEIPT, BEYOND_LIMIT, NOT_IN_FLIGHT, NO_ID};
-use crate::texts::DedupId;
 
 /// A send with the id of an earlier one adds nothing for so long, in milliseconds.
 const REMEMBERED: u64 = 300_000;

@@ -57,7 +57,7 @@ impl History {
 
     /// A send whose body is its id, which the store numbers so.
     fn send(&mut self, id: &str, group: &str, sequence: u64) -> &mut History {
-        let digest = crate::digests::md5_of_text(id);
+        let digest = hobbychair_sqs::digests::md5_of_text(id);
         let answer = json!({"MessageId": format!("1-{sequence}"), "SequenceNumber": sequence.to_string(), "MD5OfMessageBody": digest});
         let request = json!({"MessageGroupId": group, "MessageDeduplicationId": id, "MessageBody": id});
         self.done("SendMessage", request, answer)
@@ -71,7 +71,7 @@ impl History {
                 "MessageId": numbers[..2].join("-"),
                 "ReceiptHandle": receipt,
                 "Body": body,
-                "MD5OfBody": crate::digests::md5_of_text(body),
+                "MD5OfBody": hobbychair_sqs::digests::md5_of_text(body),
                 "Attributes": {
                     "ApproximateReceiveCount": numbers[2], "MessageGroupId": group, "SequenceNumber": numbers[1]
                 },

@@ -3,16 +3,16 @@
 use hobbychair_bytes::seeded::check;
 use hobbychair_bytes::values::written::{append, chunk};
 use hobbychair_bytes::values::{KeptHandings, Receipt};
+use hobbychair_sqs::envelope::{Envelope, Metadata};
+use hobbychair_sqs::texts::{Body, QueueName};
 use proptest::prelude::*;
 use proptest::sample::Index;
 use proptest::test_runner::TestCaseResult;
 
 use super::*;
-use crate::messages::{Envelope, Metadata};
 use crate::queues::book::{ProgramEntry, QueueEntry};
 use crate::queues::shards::Shards;
 use crate::store::living::{steps, told, Living, Seen, Step};
-use crate::texts::{Body, QueueName};
 
 /// The tables that are made of what was there behind a request.
 fn made_of(seen: &Seen, shards: Shards, keeps_copies: bool, parts: usize) -> Queues {

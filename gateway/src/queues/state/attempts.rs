@@ -4,11 +4,11 @@ use std::cmp::Reverse;
 use std::collections::{BinaryHeap, HashMap};
 
 use hobbychair_bytes::moment::Moment;
+use hobbychair_sqs::texts::AttemptId;
 
 use super::WINDOW;
 use crate::queues::ask::Handed;
 use crate::queues::book::AttemptRequest;
-use crate::texts::AttemptId;
 
 /// What a receive with an attempt id was given.
 #[derive(Clone, Debug)]

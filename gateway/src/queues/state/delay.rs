@@ -2,13 +2,13 @@
 
 use hobbychair_bytes::moment::Moment;
 use hobbychair_bytes::values::Receipt;
+use hobbychair_sqs::texts::DedupId;
 use uuid::Uuid;
 
 use super::delayed::First;
 use super::message::Message;
 use super::State;
 use crate::queues::ask::Outcome;
-use crate::texts::DedupId;
 
 impl State {
     pub(super) fn set_delay(&mut self, delay: u64) {

@@ -5,11 +5,11 @@ use std::collections::{BTreeSet, HashMap, VecDeque};
 use std::ops::Bound;
 
 use hobbychair_bytes::moment::Moment;
+use hobbychair_sqs::texts::{CallKey, DedupId};
 use uuid::Uuid;
 
 use super::WINDOW;
 use crate::limits::CALL_BYTES;
-use crate::texts::{CallKey, DedupId};
 
 /// When a message is due, and its sequence number.
 pub(super) type Place = (Moment, u64);

@@ -6,10 +6,10 @@ use std::collections::HashMap;
 use std::sync::Arc;
 
 use hobbychair_bytes::moment::Moment;
+use hobbychair_sqs::texts::QueueName;
 
 use super::numbers::Numbers;
 use crate::queues::groups::{Group, Groups};
-use crate::texts::QueueName;
 
 /// A message that isn't deleted.
 #[derive(Debug)]

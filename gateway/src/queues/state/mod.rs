@@ -21,19 +21,19 @@ use std::sync::Arc;
 
 use hobbychair_bytes::moment::Moment;
 use hobbychair_bytes::values::{Delivery, Receipt, StoreReply};
+use hobbychair_sqs::attributes::QueueAttributes;
+use hobbychair_sqs::envelope::{has_parts, Envelope, EnvelopeHead};
+use hobbychair_sqs::errors::SqsError;
+use hobbychair_sqs::redrive::RedrivePolicy;
+use hobbychair_sqs::texts::{AttemptId, GroupId, QueueKind};
 use uuid::Uuid;
 
 use super::ask::{Ask, Cause, Changer, Fate, Handed, Outcome, Reach};
 use super::book::{AttemptEntry, AttemptRequest, Entry, QueueEntry};
 use super::groups::{Group, Groups};
-use crate::attributes::QueueAttributes;
-use crate::errors::SqsError;
 use crate::limits::{ID_BYTES, MESSAGE_BYTES, QUEUE_BYTES, STORED_ID_BYTES, STORED_MESSAGE_BYTES, STORED_QUEUE_BYTES};
-use crate::messages::{has_parts, Envelope, EnvelopeHead};
 use crate::queues::jumps::Jumps;
 use crate::queues::tasks::{MoveTask, Status};
-use crate::redrive::RedrivePolicy;
-use crate::texts::{AttemptId, GroupId, QueueKind};
 use attempts::{Attempt, Attempts};
 use delayed::{Calls, DueMessages, First};
 use message::{Handing, Message, Messages};

@@ -3,12 +3,12 @@
 use std::sync::Arc;
 
 use hobbychair_bytes::moment::Moment;
+use hobbychair_sqs::texts::{QueueKind, QueueName};
 
 use super::message::Message;
 use super::State;
 use crate::queues::groups::Groups;
 use crate::queues::jumps::Jumps;
-use crate::texts::{QueueKind, QueueName};
 
 /// So long groups are kept that nobody needs, in milliseconds.
 const KEPT: u64 = 60_000;

@@ -2,11 +2,11 @@
 
 use hobbychair_bytes::moment::Moment;
 use hobbychair_bytes::values::Receipt;
+use hobbychair_sqs::errors::SqsError;
+use hobbychair_sqs::handles::Handle;
 
 use super::message::Message;
 use super::State;
-use crate::errors::SqsError;
-use crate::handles::Handle;
 use crate::queues::ask::Fate;
 use crate::queues::jumps::Jumps;
 

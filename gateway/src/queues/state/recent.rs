@@ -6,10 +6,10 @@
 use std::collections::HashMap;
 
 use hobbychair_bytes::moment::Moment;
+use hobbychair_sqs::texts::{DedupId, QueueKind};
 
 use super::{State, WINDOW};
 use crate::queues::ask::Outcome;
-use crate::texts::{DedupId, QueueKind};
 
 /// A send whose deduplication id counts.
 #[derive(Clone, Copy, Debug)]

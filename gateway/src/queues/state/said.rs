@@ -3,9 +3,9 @@
 use std::collections::BTreeMap;
 
 use hobbychair_bytes::moment::Moment;
+use hobbychair_sqs::attributes::QueueAttributes;
 
 use super::{delay_of_all, State};
-use crate::attributes::QueueAttributes;
 use crate::limits::QUEUE_BYTES;
 use crate::queues::ask::TableChange;
 use crate::queues::book::{Entry, Purging, QueueEntry, Removal};

@@ -6,21 +6,21 @@ use std::sync::Arc;
 
 use hobbychair_bytes::moment::Moment;
 use hobbychair_bytes::values::Receipt;
+use hobbychair_sqs::envelope::message_id;
+use hobbychair_sqs::handles::Mark;
+use hobbychair_sqs::handles::Origin;
+use hobbychair_sqs::texts::{AttemptId, CallKey, QueueKind};
 
 use super::attempts::Attempt;
 use super::delayed::First;
 use super::message::{Handing, Message};
 use super::recent::RecentSend;
 use super::{State, WINDOW};
-use crate::handles::Mark;
-use crate::handles::Origin;
-use crate::messages::message_id;
 use crate::queues::ask::Handed;
 use crate::queues::book::AttemptEntry;
 use crate::queues::image::{AcceptedSend, Named, StoredMessage, StoredQueue};
 #[cfg(test)]
 use crate::queues::tasks::MoveTask;
-use crate::texts::{AttemptId, CallKey, QueueKind};
 
 impl State {
     /// Takes up the messages that the store has, whose last entry is of the moment `last`, and counts each in `far`. Tells what they

@@ -3,13 +3,14 @@
 use std::collections::BTreeMap;
 use std::sync::Arc;
 
+use hobbychair_sqs::attributes::GivenAttributes;
+use hobbychair_sqs::handles::Handle;
+use hobbychair_sqs::texts::{DedupId, QueueName};
+
 use super::*;
-use crate::attributes::GivenAttributes;
-use crate::handles::Handle;
 use crate::queues::ask::{StoreName, TableChange};
 use crate::queues::book::{Entry, Purging};
 use crate::queues::{Queue, Queues};
-use crate::texts::{DedupId, QueueName};
 
 fn state() -> State {
     state_of("q.fifo")
@@ -99,7 +100,7 @@ fn receive(state: &mut State, ordinal: u64, moment: Moment) -> (Vec<Handed>, Vec
 fn what_was_handed_out_too_often_is_set_aside_and_earlier_handles_are_known() {
     let mut state = state();
     send(&mut state, 1, 0);
-    let handle = |ordinal, moment| Handle::new(crate::handles::Mark(1), handing(1, ordinal), moment);
+    let handle = |ordinal, moment| Handle::new(hobbychair_sqs::handles::Mark(1), handing(1, ordinal), moment);
     assert!(state.receipt_of(&handle(1, 10_000)).is_err(), "nobody had it");
     let given = &receive(&mut state, 1, 10_000).0[0];
     assert_eq!((given.receipt.ordinal, given.first), (1, 10_000));

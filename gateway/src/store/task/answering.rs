@@ -1,12 +1,12 @@
 //! Answers: what the program said, and who is told.
 
 use hobbychair_bytes::values::StoreReply;
+use hobbychair_sqs::errors::SqsError;
 use tokio::time::Instant;
 
 use super::chain::Chain;
 use super::entries::{Entry, Open, OpenAsk};
 use super::{Ended, Task};
-use crate::errors::SqsError;
 use crate::queues::ask::{Ask, Outcome};
 use crate::store::{Answer, AnswerSender};
 

@@ -6,12 +6,12 @@
 use std::sync::Arc;
 
 use hobbychair_bytes::moment::Moment;
+use hobbychair_sqs::errors::SqsError;
 
 use super::clients::CLIENTS;
 use super::entries::{Entry, Open, OpenAsk, StartOutcome};
 use super::starting::stamped;
 use super::Task;
-use crate::errors::SqsError;
 use crate::queues::ask::{Ask, StoreName};
 use crate::queues::Queue;
 use crate::store::{AnswerSender, Copy, Operation};

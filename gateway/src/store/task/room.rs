@@ -1,6 +1,7 @@
 //! What is said of a request for which a program's journal has no room.
 
-use crate::errors::SqsError;
+use hobbychair_sqs::errors::SqsError;
+
 use crate::queues::ask::{Ask, Cause, Changer, PartsAsk, PartsCause};
 
 /// What is told of a request for which a program's journal has no room. `adds`: it adds something that stays.

@@ -4,18 +4,18 @@ use std::sync::Arc;
 
 use hobbychair_bytes::moment::Moment;
 use hobbychair_bytes::values::{append_query, append_request, Receipt, StoreAsk};
+use hobbychair_sqs::errors::SqsError;
+use hobbychair_sqs::texts::{DedupId, QueueKind};
 
 use super::clients::COUNTER;
 use super::entries::{Entry, Open, OpenAsk, Pending, StartOutcome};
 use super::room::{adds, refusal_for_room};
 use super::{chain, Ended, Task, PIECE};
-use crate::errors::SqsError;
 use crate::limits::{GONE_NAME_BYTES, STORED_NAME_BYTES};
 use crate::queues::ask::{Ask, Cause, Outcome, StoreName, TableChange};
 use crate::queues::book::{self, AttemptRequest};
 use crate::queues::Queue;
 use crate::store::Operation;
-use crate::texts::{DedupId, QueueKind};
 
 /// No queue of the store has this name: theirs have numbers. A receive of it does nothing but move the store's moment on.
 const NO_QUEUE: &str = "none.fifo";

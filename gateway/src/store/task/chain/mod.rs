@@ -14,13 +14,13 @@ use std::time::Duration;
 use hobbychair_bytes::parts::{Cutter, Malformed, FRAME_LIMIT};
 use hobbychair_bytes::pipe::{FromGateway, FromNode};
 use hobbychair_bytes::values::{RequestName, StoreAnswer, StoreReply};
+use hobbychair_sqs::errors::SqsError;
 use tokio::time::Instant;
 
 use super::clients::COUNTER;
 use super::entries::{Entry, Open};
 use super::room::adds;
 use super::{Ended, Task};
-use crate::errors::SqsError;
 
 /// Behind a refusal all is asked again after this time: there was no memory.
 const PAUSE: Duration = Duration::from_millis(50);

@@ -3,6 +3,9 @@ use std::time::Duration;
 
 use bytes::{Bytes, BytesMut};
 use hobbychair_bytes::parts::Frames;
+use hobbychair_sqs::envelope::Envelope;
+use hobbychair_sqs::errors::SqsError;
+use hobbychair_sqs::texts::{DedupId, GroupId, QueueName};
 use tokio::io::AsyncWriteExt;
 use tokio::net::unix::{OwnedReadHalf, OwnedWriteHalf};
 use tokio::net::UnixStream;
@@ -10,15 +13,12 @@ use tokio::net::UnixStream;
 use super::*;
 use crate::clock::Clock;
 use crate::cq::Cq;
-use crate::errors::SqsError;
-use crate::messages::Envelope;
 use crate::queues::ask::{Ask, Cause, Outcome, StoreName, TableChange};
 use crate::queues::book::QueueEntry;
 use crate::queues::shards::Shards;
 use crate::queues::{Queue, Queues};
 use crate::store::task::{start, Kept, NodeStart, Start};
 use crate::store::{wanted_until, Answer as Answered, Store};
-use crate::texts::{DedupId, GroupId, QueueName};
 
 /// The other end of the gateway's pipe.
 struct Node {

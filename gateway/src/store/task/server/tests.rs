@@ -4,6 +4,9 @@ use bytes::Bytes;
 use hobbychair_bytes::commands::{Place, Standing};
 use hobbychair_bytes::parts::{Frames, Reader};
 use hobbychair_bytes::values::{Receipt, StoreReply};
+use hobbychair_sqs::envelope::Envelope;
+use hobbychair_sqs::handles::Origin;
+use hobbychair_sqs::texts::{DedupId, GroupId, QueueName};
 use tokio::io::AsyncWriteExt;
 use tokio::net::unix::{OwnedReadHalf, OwnedWriteHalf};
 use tokio::net::UnixStream;
@@ -12,8 +15,6 @@ use tokio::task::JoinHandle;
 use super::*;
 use crate::clock::Clock;
 use crate::cq::Cq;
-use crate::handles::Origin;
-use crate::messages::Envelope;
 use crate::queues::ask::{Ask, Cause, Outcome, StoreName};
 use crate::queues::book::QueueEntry;
 use crate::queues::shards::Shards;
@@ -21,7 +22,6 @@ use crate::queues::{Queue, Queues};
 use crate::store::task::clients::COUNTER;
 use crate::store::task::{start, Ends, Kept, Start};
 use crate::store::{Answer as Answered, Copy, Store};
-use crate::texts::{DedupId, GroupId, QueueName};
 
 /// The other end of the gateway's pipe.
 struct Program {

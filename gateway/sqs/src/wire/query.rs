@@ -12,8 +12,8 @@ use super::responses::{Failed, ListedTask, ReceivedMessage, Response, Sent, Succ
 use super::value::{Map, Value};
 use super::{fault, AwsService, Incoming, Reply};
 use crate::action::Action;
+use crate::envelope::AttributeValue;
 use crate::errors::SqsError;
-use crate::messages::AttributeValue;
 
 const CONTENT_TYPE: &str = "text/xml";
 

@@ -3,8 +3,8 @@
 use serde::ser::{SerializeMap, Serializer};
 use serde::Serialize;
 
+use crate::envelope::{EnvelopeBody, MessageAttributes};
 use crate::errors::SqsError;
-use crate::messages::{EnvelopeBody, MessageAttributes};
 
 /// The result of an action that was done.
 #[derive(Clone, Debug, PartialEq)]

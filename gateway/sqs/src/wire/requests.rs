@@ -7,8 +7,8 @@ use super::tokens::name_before;
 use super::value::Map;
 use crate::action::Action;
 use crate::attributes::{GivenAttributes, WantedAttributes};
+use crate::envelope::{AttributeValue, MessageAttributes};
 use crate::errors::SqsError;
-use crate::messages::{AttributeValue, MessageAttributes};
 use crate::policy::{read_label, Permission};
 use crate::redrive::QueueArn;
 use crate::texts::{AttemptId, Body, DedupId, GroupId, QueueKind, QueueName};
@@ -165,7 +165,7 @@ impl NewMessage {
     /// What it counts against `MaximumMessageSize`, in bytes.
     pub fn size(&self) -> usize {
         let of_trace = self.trace.as_ref().map_or(0, AttributeValue::size);
-        self.body.as_str().len() + crate::messages::size_of_attributes(&self.attributes) + of_trace
+        self.body.as_str().len() + crate::envelope::size_of_attributes(&self.attributes) + of_trace
     }
 }
 
@@ -246,7 +246,7 @@ impl SystemAttribute {
             SystemAttribute::ApproximateFirstReceiveTimestamp => "ApproximateFirstReceiveTimestamp",
             SystemAttribute::ApproximateReceiveCount => "ApproximateReceiveCount",
             SystemAttribute::DeadLetterQueueSourceArn => "DeadLetterQueueSourceArn",
-            SystemAttribute::TraceHeader => crate::messages::TRACE_HEADER,
+            SystemAttribute::TraceHeader => crate::envelope::TRACE_HEADER,
             SystemAttribute::MessageDeduplicationId => "MessageDeduplicationId",
             SystemAttribute::MessageGroupId => "MessageGroupId",
             SystemAttribute::SenderId => "SenderId",

@@ -3,7 +3,7 @@
 use hobbychair_bytes::digits::hex;
 use md5::{Digest, Md5};
 
-use crate::messages::MessageAttributes;
+use crate::envelope::MessageAttributes;
 
 /// `MD5OfBody` and `MD5OfMessageBody`: over the bytes of UTF-8, in hex.
 pub fn md5_of_text(text: &str) -> String {
@@ -32,7 +32,7 @@ fn update_counted(digest: &mut Md5, data: &[u8]) {
 #[cfg(test)]
 mod tests {
     use super::*;
-    use crate::messages::AttributeValue;
+    use crate::envelope::AttributeValue;
 
     #[test]
     fn digests_of_bodies_and_attributes() {

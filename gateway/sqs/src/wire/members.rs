@@ -5,8 +5,8 @@
 use std::collections::HashSet;
 
 use super::value::{Map, Value};
+use crate::envelope::{test_attribute_name, AttributeValue, MessageAttributes, MOST_ATTRIBUTES, TRACE_HEADER};
 use crate::errors::SqsError;
-use crate::messages::{test_attribute_name, AttributeValue, MessageAttributes, MOST_ATTRIBUTES, TRACE_HEADER};
 
 /// The members of one request, of one entry of a batch, or of a structure.
 #[derive(Clone, Copy)]

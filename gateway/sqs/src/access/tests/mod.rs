@@ -27,8 +27,8 @@ const SIGNED_AT: u64 = 1_772_323_198;
 
 /// What `tests/golden/sign_requests.py` writes.
 const SIGNED: [&str; 2] = [
-    include_str!("../../../tests/golden/signed_by_botocore_1.29.27.jsonl"),
-    include_str!("../../../tests/golden/signed_by_botocore_1.43.11.jsonl"),
+    include_str!("../../../../tests/golden/signed_by_botocore_1.29.27.jsonl"),
+    include_str!("../../../../tests/golden/signed_by_botocore_1.43.11.jsonl"),
 ];
 
 /// A request as its parts, which tests can spoil.

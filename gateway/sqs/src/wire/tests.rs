@@ -8,8 +8,8 @@ use super::requests::{Request, Sending};
 use super::responses::{ReceivedMessage, Response};
 use super::{Incoming, Protocol};
 use crate::action::Action;
+use crate::envelope::MessageAttributes;
 use crate::errors::SqsError;
-use crate::messages::MessageAttributes;
 use crate::policy::Permission;
 use crate::texts::test_characters;
 
@@ -23,8 +23,8 @@ struct Written {
     body: String,
 }
 
-const BY_QUERY: &str = include_str!("../../tests/golden/serialized_by_botocore_1.29.27.jsonl");
-const BY_JSON: &str = include_str!("../../tests/golden/serialized_by_botocore_1.43.11.jsonl");
+const BY_QUERY: &str = include_str!("../../../tests/golden/serialized_by_botocore_1.29.27.jsonl");
+const BY_JSON: &str = include_str!("../../../tests/golden/serialized_by_botocore_1.43.11.jsonl");
 
 fn written(lines: &str) -> Vec<Written> {
     lines.lines().map(|line| serde_json::from_str(line).unwrap()).collect()
