@@ -7,6 +7,8 @@ use std::sync::{Arc, OnceLock};
 use std::time::Duration;
 
 use bytes::Bytes;
+use hobbychair_tables::ask::Outcome;
+use hobbychair_tables::budget::Share;
 use hyper::header::{HeaderMap, HeaderValue, CONTENT_TYPE};
 use hyper::server::conn::Http;
 use hyper::service::service_fn;
@@ -14,11 +16,9 @@ use hyper::{Body, Method, Request, Response, StatusCode, Uri};
 use tokio::net::TcpListener;
 use tokio::sync::Semaphore;
 
-use crate::budget::Share;
 use crate::http::{to_be_written, Hosts, Progress, Watched, LONGEST_HEAD};
 use crate::metrics::{Counts, Metrics};
 use crate::peek::{self, Peeks};
-use crate::queues::ask::Outcome;
 use crate::store::Store;
 
 /// So long a look waits for the programs that keep the queues.

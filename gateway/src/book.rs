@@ -7,10 +7,10 @@ use std::sync::Arc;
 use std::time::Duration;
 
 use hobbychair_sqs::errors::SqsError;
+use hobbychair_tables::ask::{Ask, StoreName};
+use hobbychair_tables::book::{Entry, ProgramEntry, Removal};
+use hobbychair_tables::Queue;
 
-use crate::queues::ask::{Ask, StoreName};
-use crate::queues::book::{Entry, ProgramEntry, Removal};
-use crate::queues::Queue;
 use crate::store::{Operation, Store};
 
 /// So often books are looked at.
@@ -212,11 +212,11 @@ mod tests {
     use std::collections::BTreeMap;
 
     use hobbychair_sqs::texts::QueueName;
+    use hobbychair_tables::book::QueueEntry;
+    use hobbychair_tables::limits::MESSAGE_BYTES;
+    use hobbychair_tables::Queues;
 
     use super::*;
-    use crate::limits::MESSAGE_BYTES;
-    use crate::queues::book::QueueEntry;
-    use crate::queues::Queues;
 
     #[test]
     fn what_counts_of_queues_is_counted_as_it_is_written() {

@@ -9,13 +9,13 @@ use anyhow::Result;
 use clap::ValueEnum;
 use hobbychair_cluster::identity::IdentityFiles;
 use hobbychair_cluster::memory;
+use hobbychair_tables::shards::Shards;
 use serde::Deserialize;
 
 use crate::actions::{Owner, Pauses};
 use crate::front;
 use crate::journal::Files;
 use crate::misuse::Misuse;
-use crate::queues::shards::Shards;
 use crate::serve::Settings;
 
 /// The options of `serve`. A file has the same names, and each option has a variable: `HOBBYCHAIR_` and its name.

@@ -8,10 +8,10 @@ use std::collections::HashMap;
 use std::sync::Arc;
 
 use hobbychair_sqs::errors::SqsError;
+use hobbychair_tables::ask::Handed;
+use hobbychair_tables::Queue;
 
 use crate::moves::{move_due, show_again};
-use crate::queues::ask::Handed;
-use crate::queues::Queue;
 use crate::store::{Held, Store};
 
 /// So many messages are moved, or handed out, at once.

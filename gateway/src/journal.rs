@@ -11,12 +11,12 @@ use std::path::{Path, PathBuf};
 use std::thread;
 use std::time::{Duration, Instant};
 
+use hobbychair_tables::book::FORM;
+use hobbychair_tables::shards::Shards;
 use rustix::fs::{fallocate, flock, fstatfs, FallocateFlags, FlockOperation, OFlags};
 use thiserror::Error;
 
 use crate::cq::{KeptFile, Making};
-use crate::queues::book::FORM;
-use crate::queues::shards::Shards;
 
 /// Why the files of a journal can't be used.
 #[derive(Clone, Debug, PartialEq, Eq, Error)]

@@ -8,12 +8,12 @@ use hobbychair_sqs::access::Keys;
 use hobbychair_sqs::action::Action;
 use hobbychair_sqs::errors::SqsError;
 use hobbychair_sqs::texts::QueueName;
+use hobbychair_tables::ask::{Handed, TableChange};
+use hobbychair_tables::tasks::{MoveTask, Status};
+use hobbychair_tables::Queue;
 use uuid::Uuid;
 
 use crate::moves::move_each;
-use crate::queues::ask::{Handed, TableChange};
-use crate::queues::tasks::{MoveTask, Status};
-use crate::queues::Queue;
 use crate::store::Store;
 
 /// The keys that say where a task may move messages to; none where everybody may do everything.

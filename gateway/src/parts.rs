@@ -10,11 +10,11 @@ use std::time::Duration;
 
 use hobbychair_sqs::envelope::{parts_of, EnvelopeHead};
 use hobbychair_sqs::errors::SqsError;
+use hobbychair_tables::ask::{Ask, Handed, Outcome, PartsAsk, PartsCause};
+use hobbychair_tables::budget::Share;
+use hobbychair_tables::Queue;
 
-use crate::budget::Share;
 use crate::delays;
-use crate::queues::ask::{Ask, Handed, Outcome, PartsAsk, PartsCause};
-use crate::queues::Queue;
 use crate::store::{spawn_wanted, Answer, Operation, Store};
 
 /// So many parts are removed at once.

@@ -1,7 +1,5 @@
 //! `GET /_aws/sqs/messages`: what stands in a queue, for operators, as LocalStack shows it. Nothing is received by it.
 
-use std::fmt;
-use std::str::FromStr;
 use std::sync::Arc;
 
 use bytes::Bytes;
@@ -11,6 +9,9 @@ use hobbychair_sqs::texts::QueueName;
 use hobbychair_sqs::wire::requests::Shown;
 use hobbychair_sqs::wire::responses::ReceivedMessage;
 use hobbychair_sqs::wire::{self, Protocol, Reply};
+use hobbychair_tables::ask::Handed;
+use hobbychair_tables::budget::{Budget, Share};
+use hobbychair_tables::{Chunk, Cursor, Peeked, Queue, Visibility};
 use hyper::header::{HeaderMap, HeaderValue, ACCEPT, CONTENT_TYPE};
 use hyper::{Response, StatusCode, Uri};
 use serde_json::{json, Map, Value};
@@ -18,10 +19,7 @@ use tokio::runtime::Handle;
 use uuid::Uuid;
 
 use crate::actions::{show, Owner};
-use crate::budget::{Budget, Share};
 use crate::parts::{self, Read};
-use crate::queues::ask::Handed;
-use crate::queues::{Chunk, Cursor, Peeked, Queue, Visibility};
 use crate::store::Store;
 
 /// The path, behind which a region, an account and a queue may stand.
@@ -59,31 +57,6 @@ impl Format {
         } else {
             Format::Xml
         }
-    }
-}
-
-impl fmt::Display for Cursor {
-    fn fmt(&self, formatter: &mut fmt::Formatter<'_>) -> fmt::Result {
-        match self {
-            Cursor::Stored(sequence) => write!(formatter, "stored-{sequence}"),
-            Cursor::Delayed(due, added) => write!(formatter, "delayed-{due}-{added}"),
-        }
-    }
-}
-
-impl FromStr for Cursor {
-    type Err = SqsError;
-
-    fn from_str(text: &str) -> Result<Cursor, SqsError> {
-        let parts: Vec<_> = text.split('-').collect();
-        let cursor = match parts[..] {
-            ["stored", sequence] => sequence.parse().ok().map(Cursor::Stored),
-            ["delayed", due, added] => {
-                due.parse().ok().zip(added.parse().ok()).map(|(due, added)| Cursor::Delayed(due, added))
-            }
-            _ => None,
-        };
-        cursor.ok_or_else(|| SqsError::InvalidParameterValue("NextToken is none that was given out.".into()))
     }
 }
 

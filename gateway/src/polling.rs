@@ -4,15 +4,15 @@ use std::sync::Arc;
 use std::time::Duration;
 
 use hobbychair_sqs::errors::SqsError;
+use hobbychair_tables::ask::{Ask, Outcome};
+use hobbychair_tables::presence::Presence;
+use hobbychair_tables::waiting::{AnswerMemory, Poll, PollResult, Room};
+use hobbychair_tables::Queue;
 use tokio::sync::oneshot;
 use tokio::time::Instant;
 
 use crate::deliveries::{ask_all, see_to, Seen};
 use crate::ending::Ending;
-use crate::presence::Presence;
-use crate::queues::ask::{Ask, Outcome};
-use crate::queues::waiting::{AnswerMemory, Poll, PollResult, Room};
-use crate::queues::Queue;
 use crate::store::Store;
 
 /// Refuses a receive of so many messages before it is handed any, where its answer may not find room.

@@ -5,9 +5,9 @@ use std::sync::Arc;
 use std::time::Duration;
 
 use hobbychair_sqs::errors::SqsError;
+use hobbychair_tables::ask::TableChange;
+use hobbychair_tables::Queue;
 
-use crate::queues::ask::TableChange;
-use crate::queues::Queue;
 use crate::retention::delete_next;
 use crate::store::{Held, Store};
 

@@ -11,9 +11,9 @@ use hobbychair_sqs::wire::Reply;
 use sha2::{Digest, Sha256};
 use tokio::sync::watch;
 
-use crate::clock::Clock;
-use crate::presence::{Presence, Present};
-use crate::queues::Queue;
+use hobbychair_tables::clock::Clock;
+use hobbychair_tables::presence::{Presence, Present};
+use hobbychair_tables::Queue;
 
 /// So long an answer is kept.
 const KEPT: Duration = Duration::from_secs(60);

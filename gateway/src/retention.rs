@@ -5,9 +5,9 @@ use std::time::Duration;
 
 use hobbychair_bytes::moment::Moment;
 use hobbychair_sqs::errors::SqsError;
+use hobbychair_tables::book::Entry;
+use hobbychair_tables::Queue;
 
-use crate::queues::book::Entry;
-use crate::queues::Queue;
 use crate::store::{Held, Operation, Store};
 
 /// Of the time between the last record of a journal and the start that finds it, so much makes messages older, in

@@ -4,11 +4,11 @@ use std::sync::Arc;
 
 use hobbychair_sqs::errors::SqsError;
 use hobbychair_sqs::wire::{Incoming, Protocol};
+use hobbychair_tables::budget::Budget;
+use hobbychair_tables::presence::Presence;
 
 use super::{Actions, Caller};
-use crate::budget::Budget;
 use crate::config::DeclaredQueue;
-use crate::presence::Presence;
 
 impl Actions {
     /// Creates the declared queues that aren't there, as a client would by CreateQueue. What can't be created is

@@ -18,15 +18,15 @@ use hobbychair_sqs::action::Action;
 use hobbychair_sqs::errors::SqsError;
 use hobbychair_sqs::texts::QueueName;
 use hobbychair_sqs::wire::{Request, Response};
+use hobbychair_tables::budget::Share;
+use hobbychair_tables::presence::Presence;
+use hobbychair_tables::Queue;
 use tokio::sync::{Mutex, Semaphore};
 use uuid::Uuid;
 
-use crate::budget::Share;
 use crate::ending::Ending;
 use crate::metrics::Metrics;
 use crate::move_tasks::Rights;
-use crate::presence::Presence;
-use crate::queues::Queue;
 use crate::store::Store;
 pub use receiving::show;
 

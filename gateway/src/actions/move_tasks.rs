@@ -10,14 +10,14 @@ use hobbychair_sqs::texts::QueueName;
 use hobbychair_sqs::wire::requests::{StartMove, TaskHandle};
 use hobbychair_sqs::wire::responses::ListedTask;
 use hobbychair_sqs::wire::Response;
+use hobbychair_tables::ask::TableChange;
+use hobbychair_tables::tasks::{MoveTask, Status};
+use hobbychair_tables::Queue;
 use sha2::Sha256;
 use uuid::{Builder, Uuid};
 
 use super::{Actions, Caller, Performed};
 use crate::move_tasks::run;
-use crate::queues::ask::TableChange;
-use crate::queues::tasks::{MoveTask, Status};
-use crate::queues::Queue;
 
 /// What tells the digests of ids of tasks from all others by the same secret.
 const TASK: &[u8] = b"task";

@@ -5,9 +5,9 @@ use hobbychair_sqs::errors::SqsError;
 use hobbychair_sqs::policy::{Permission, Policy};
 use hobbychair_sqs::texts::QueueName;
 use hobbychair_sqs::wire::Response;
+use hobbychair_tables::ask::TableChange;
 
 use super::{Actions, Caller, Performed};
-use crate::queues::ask::TableChange;
 
 impl Actions {
     pub(super) async fn add_permission(

@@ -11,15 +11,15 @@ use hobbychair_sqs::texts::{QueueKind, QueueName};
 use hobbychair_sqs::wire::requests::{Receive, Shown, SystemAttribute};
 use hobbychair_sqs::wire::responses::ReceivedMessage;
 use hobbychair_sqs::wire::Response;
+use hobbychair_tables::ask::{Ask, Changer, Handed, Reach};
+use hobbychair_tables::waiting::{AnswerMemory, Room};
+use hobbychair_tables::Queue;
 
 use super::messages::sequence_number;
 use super::{Actions, Caller, Owner, Performed};
 use crate::deliveries::{self, has_most_in_flight, Delivered};
 use crate::parts;
 use crate::polling::{self, Waiter};
-use crate::queues::ask::{Ask, Changer, Handed, Reach};
-use crate::queues::waiting::{AnswerMemory, Room};
-use crate::queues::Queue;
 
 /// The `SenderId` of messages whose senders signed with no key that anybody looked at.
 const SENDER: &str = "AIDAHOBBYCHAIR0000000";

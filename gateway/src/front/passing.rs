@@ -11,6 +11,7 @@ use hobbychair_cluster::acting::{Acting, Follower};
 use hobbychair_cluster::identity::{Identity, Role};
 use hobbychair_cluster::transport::Connector;
 use hobbychair_sqs::errors::SqsError;
+use hobbychair_tables::budget::Share;
 use hyper::body::HttpBody;
 use hyper::{Body, Client, Request, Response, StatusCode, Uri};
 use thiserror::Error;
@@ -22,7 +23,6 @@ use super::headers::{as_answered, room_needed, time_of, Asked, Try};
 use super::operators::Figures;
 use super::streams::Streams;
 use super::times::{milliseconds, Times};
-use crate::budget::Share;
 use crate::calls::LONGEST_BODY;
 
 /// A request is asked again until so long after it came.

@@ -7,7 +7,7 @@ use hyper::body::Sender;
 use hyper::header::CONTENT_LENGTH;
 use hyper::{Body, Response};
 
-use crate::budget::Share;
+use hobbychair_tables::budget::Share;
 
 /// So many bytes go to a connection at once. It takes the next ones when these are on their way.
 const PIECE: usize = 64 << 10;
@@ -66,7 +66,7 @@ mod tests {
 
     use hyper::body::HttpBody;
 
-    use crate::budget::Budget;
+    use hobbychair_tables::budget::Budget;
 
     #[tokio::test]
     async fn a_large_answer_counts_until_its_last_piece_is_on_its_way() {

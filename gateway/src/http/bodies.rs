@@ -10,7 +10,7 @@ use hyper::body::HttpBody;
 use hyper::Body;
 use tokio::time::{timeout_at, Instant};
 
-use crate::budget::Share;
+use hobbychair_tables::budget::Share;
 
 /// The longest body of a request, in bytes: JSON writes one byte of a message as six at most, and 64 KiB are for the
 /// rest.
@@ -117,7 +117,7 @@ mod tests {
 
     use std::time::Duration;
 
-    use crate::budget::Budget;
+    use hobbychair_tables::budget::Budget;
 
     fn soon() -> Instant {
         Instant::now() + Duration::from_secs(5)

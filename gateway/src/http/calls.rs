@@ -8,6 +8,7 @@ use std::time::Duration;
 
 use bytes::Bytes;
 use hobbychair_bytes::parts::Frames;
+use hobbychair_tables::budget::Share;
 use hyper::body::HttpBody;
 use hyper::header::{HeaderValue, CONNECTION, UPGRADE};
 use hyper::{Body, Method, Request, Response, StatusCode, Version};
@@ -19,7 +20,6 @@ use tokio::time::{interval, sleep, timeout, Instant, MissedTickBehavior};
 
 use super::watched::Progress;
 use super::{Arrival, Connection, Service, LONGEST_REQUEST};
-use crate::budget::Share;
 use crate::calls::{self, Call, FromFront, FRAME_LIMIT, PIECE, PROTOCOL};
 use crate::ending::Ending;
 
@@ -327,11 +327,10 @@ impl<W: AsyncWrite + Unpin> Writer<W> {
 
 #[cfg(test)]
 mod tests {
-    use super::*;
-
+    use hobbychair_tables::budget::Budget;
     use tokio::io::{duplex, DuplexStream};
 
-    use crate::budget::Budget;
+    use super::*;
     use crate::calls::FromGateway;
 
     fn answered(number: u64, length: usize, budget: &Budget) -> Answered {

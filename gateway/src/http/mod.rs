@@ -22,6 +22,8 @@ use hobbychair_sqs::action::Action;
 use hobbychair_sqs::errors::SqsError;
 use hobbychair_sqs::texts::QueueName;
 use hobbychair_sqs::wire::{self, Protocol, Reply};
+use hobbychair_tables::budget::{Budget, Share};
+use hobbychair_tables::presence::Presence;
 use hyper::header::{HeaderMap, HeaderName, HeaderValue, AUTHORIZATION, CONNECTION, CONTENT_TYPE};
 use hyper::http::request::Parts;
 use hyper::upgrade::OnUpgrade;
@@ -30,9 +32,7 @@ use tokio::time::Instant;
 use uuid::Uuid;
 
 use crate::actions::{Actions, Caller};
-use crate::budget::{Budget, Share};
 use crate::metrics::Metrics;
-use crate::presence::Presence;
 use crate::repeats::{is_repeat, CallFields, CallResult, IdempotencyKey, Lookup, OpenCall, Repeats};
 use crate::store::wanted_until;
 pub use address::{is_of_this_machine, Addresses};

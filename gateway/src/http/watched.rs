@@ -8,11 +8,11 @@ use std::sync::{Arc, Mutex, MutexGuard, PoisonError};
 use std::task::{ready, Context, Poll};
 use std::time::Duration;
 
+use hobbychair_tables::presence::is_hung_up;
 use tokio::io::{AsyncRead, AsyncWrite, ReadBuf};
 use tokio::time::{sleep, sleep_until, Instant, Sleep};
 
 use super::framing::Framing;
-use crate::presence::is_hung_up;
 
 /// So long a client may leave unread what it is sent, before its connection is closed.
 const LONGEST_STALL: Duration = Duration::from_secs(60);

@@ -6,12 +6,12 @@ use std::process::{Command, Stdio};
 
 use anyhow::{Context, Result};
 use hobbychair_bytes::values::{Part, StoreReader};
+use hobbychair_tables::ask::StoreName;
+use hobbychair_tables::book::{form_said_by, Entry, ProgramEntry, FORM};
+use hobbychair_tables::ImageError;
 use serde::Deserialize;
 
 use crate::journal::JournalError;
-use crate::queues::ask::StoreName;
-use crate::queues::book::{form_said_by, Entry, ProgramEntry, FORM};
-use crate::queues::ImageError;
 
 /// A line of `cq dump` that tells a chunk of a store.
 #[derive(Deserialize)]

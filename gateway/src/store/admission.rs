@@ -6,10 +6,10 @@ use std::sync::Arc;
 use hobbychair_bytes::moment::Moment;
 use hobbychair_sqs::errors::SqsError;
 
-use crate::limits::{Bound, GONE_NAME_BYTES, MESSAGE_BYTES, QUEUE_BYTES};
-use crate::queues::ask::{Ask, Cause, PartsAsk, PartsCause};
-use crate::queues::book::Entry;
-use crate::queues::{Queue, Queues};
+use hobbychair_tables::ask::{Ask, Cause, PartsAsk, PartsCause};
+use hobbychair_tables::book::Entry;
+use hobbychair_tables::limits::{Bound, GONE_NAME_BYTES, MESSAGE_BYTES, QUEUE_BYTES};
+use hobbychair_tables::{Queue, Queues};
 
 /// A queue that takes no more without its messages gets attributes and tags also where the bound is full.
 const ORDINARY: u64 = QUEUE_BYTES + 4_096;
@@ -129,10 +129,10 @@ mod tests {
     use hobbychair_sqs::envelope::Envelope;
     use hobbychair_sqs::handles::Origin;
     use hobbychair_sqs::texts::{DedupId, GroupId, QueueName};
+    use hobbychair_tables::ask::{Reach, StoreName};
+    use hobbychair_tables::book::QueueEntry;
 
     use super::*;
-    use crate::queues::ask::{Reach, StoreName};
-    use crate::queues::book::QueueEntry;
 
     #[test]
     fn a_large_queue_gets_no_tags_where_memory_is_full_and_nobody_waits_for_himself() {

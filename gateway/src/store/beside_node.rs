@@ -5,6 +5,8 @@ use std::sync::atomic::{AtomicU64, Ordering};
 
 use hobbychair_bytes::parts::{Cutter, Malformed, FRAME_LIMIT};
 use hobbychair_bytes::pipe::{FromGateway, FromNode};
+use hobbychair_tables::clock::Clock;
+use hobbychair_tables::ImageError;
 use thiserror::Error;
 use tokio::io::{AsyncReadExt, AsyncWriteExt};
 use tokio::net::UnixStream;
@@ -12,9 +14,7 @@ use tokio::task::JoinHandle;
 
 use super::task::NodeStart;
 use super::told::Take;
-use crate::clock::Clock;
 use crate::cq::{Cq, CqError};
-use crate::queues::ImageError;
 
 const PIECE: usize = 256 * 1024;
 

@@ -2,11 +2,7 @@
 
 mod admission;
 mod beside_node;
-#[cfg(test)]
-pub mod by_rules;
 mod figures;
-#[cfg(test)]
-pub mod living;
 mod task;
 mod told;
 
@@ -18,16 +14,16 @@ use hobbychair_bytes::values::Receipt;
 use hobbychair_sqs::errors::SqsError;
 use hobbychair_sqs::handles::{HandleKey, Mark};
 use hobbychair_sqs::texts::{AttemptId, QueueKind, QueueName};
+use hobbychair_tables::ask::{Ask, Cause, Handed, Outcome, PartsAsk, Reach, StoreName, TableChange};
+use hobbychair_tables::book::Entry;
+use hobbychair_tables::budget::Share;
+use hobbychair_tables::clock::Clock;
+use hobbychair_tables::shards::Shards;
+use hobbychair_tables::{Queue, Queues};
 use tokio::sync::{mpsc, oneshot};
 use tokio::task::JoinHandle;
 use uuid::Uuid;
 
-use crate::budget::Share;
-use crate::clock::Clock;
-use crate::queues::ask::{Ask, Cause, Handed, Outcome, PartsAsk, Reach, StoreName, TableChange};
-use crate::queues::book::Entry;
-use crate::queues::shards::Shards;
-use crate::queues::{Queue, Queues};
 use admission::Admission;
 pub use beside_node::{take_up as take_up_from_node, wait_for as wait_beside_node, BesideNodeError};
 use figures::Counters;

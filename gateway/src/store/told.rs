@@ -7,11 +7,11 @@ use bytes::{Bytes, BytesMut};
 use hobbychair_bytes::commands::{Command, Response, NO_MEMORY};
 use hobbychair_bytes::parts::{Cutter, Malformed, FRAME_LIMIT};
 use hobbychair_bytes::values::BadFrame;
+use hobbychair_tables::ImageError;
 use thiserror::Error;
 use tokio::io::{AsyncReadExt, AsyncWriteExt};
 
 use crate::cq::{Cq, CqError, KeptFile};
-use crate::queues::ImageError;
 
 const PIECE: usize = 256 * 1024;
 

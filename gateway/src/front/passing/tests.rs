@@ -2,6 +2,7 @@ use std::sync::atomic::{AtomicUsize, Ordering};
 use std::sync::Arc;
 
 use hobbychair_cluster::acting::Acting;
+use hobbychair_tables::budget::Budget;
 use hyper::header::HeaderValue;
 use tokio::io::{AsyncReadExt, AsyncWriteExt};
 use tokio::net::{TcpListener, TcpStream};
@@ -9,7 +10,6 @@ use tokio::sync::mpsc::{unbounded_channel, UnboundedReceiver};
 
 use super::super::headers::Came;
 use super::*;
-use crate::budget::Budget;
 
 fn share() -> Share {
     Budget::new(1 << 20).share()

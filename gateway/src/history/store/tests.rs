@@ -2,14 +2,14 @@
 
 use hobbychair_bytes::seeded;
 use hobbychair_bytes::values::Receipt;
+use hobbychair_tables::ask::StoreName;
+use hobbychair_tables::by_rules::StoreByRules;
 use proptest::prelude::*;
 use serde_json::{json, Value};
 
 use super::super::{check, Told};
 use super::*;
 use crate::history::stored::{line_of_chunk, line_of_request, request_of};
-use crate::queues::ask::StoreName;
-use crate::store::by_rules::StoreByRules;
 
 /// A history that is written by a test.
 #[derive(Default)]

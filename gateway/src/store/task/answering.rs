@@ -2,12 +2,12 @@
 
 use hobbychair_bytes::values::StoreReply;
 use hobbychair_sqs::errors::SqsError;
+use hobbychair_tables::ask::{Ask, Outcome};
 use tokio::time::Instant;
 
 use super::chain::Chain;
 use super::entries::{Entry, Open, OpenAsk};
 use super::{Ended, Task};
-use crate::queues::ask::{Ask, Outcome};
 use crate::store::{Answer, AnswerSender};
 
 impl Task {

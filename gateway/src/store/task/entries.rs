@@ -3,10 +3,10 @@
 use std::sync::Arc;
 
 use hobbychair_bytes::moment::Moment;
+use hobbychair_tables::ask::Ask;
+use hobbychair_tables::Queue;
 
 use super::room::adds;
-use crate::queues::ask::Ask;
-use crate::queues::Queue;
 use crate::store::{Answer, AnswerSender, Operation};
 
 /// Something whose answer is due. Answers are given in the order of the requests.

@@ -7,13 +7,13 @@ use std::sync::Arc;
 
 use hobbychair_bytes::moment::Moment;
 use hobbychair_sqs::errors::SqsError;
+use hobbychair_tables::ask::{Ask, StoreName};
+use hobbychair_tables::Queue;
 
 use super::clients::CLIENTS;
 use super::entries::{Entry, Open, OpenAsk, StartOutcome};
 use super::starting::stamped;
 use super::Task;
-use crate::queues::ask::{Ask, StoreName};
-use crate::queues::Queue;
 use crate::store::{AnswerSender, Copy, Operation};
 
 /// Copies that aren't all answered yet.

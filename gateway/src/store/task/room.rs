@@ -2,7 +2,7 @@
 
 use hobbychair_sqs::errors::SqsError;
 
-use crate::queues::ask::{Ask, Cause, Changer, PartsAsk, PartsCause};
+use hobbychair_tables::ask::{Ask, Cause, Changer, PartsAsk, PartsCause};
 
 /// What is told of a request for which a program's journal has no room. `adds`: it adds something that stays.
 pub(super) fn refusal_for_room(adds: bool) -> SqsError {

@@ -5,7 +5,7 @@
 
 use std::time::Instant;
 
-use crate::limits::Bound;
+use hobbychair_tables::limits::Bound;
 
 /// What a file has before its regions, and the length of one (`docs/JOURNAL.md`).
 const ROOT: u64 = 1 << 20;

@@ -6,15 +6,15 @@ use hobbychair_bytes::moment::Moment;
 use hobbychair_bytes::values::{append_query, append_request, Receipt, StoreAsk};
 use hobbychair_sqs::errors::SqsError;
 use hobbychair_sqs::texts::{DedupId, QueueKind};
+use hobbychair_tables::ask::{Ask, Cause, Outcome, StoreName, TableChange};
+use hobbychair_tables::book::{self, AttemptRequest};
+use hobbychair_tables::limits::{GONE_NAME_BYTES, STORED_NAME_BYTES};
+use hobbychair_tables::Queue;
 
 use super::clients::COUNTER;
 use super::entries::{Entry, Open, OpenAsk, Pending, StartOutcome};
 use super::room::{adds, refusal_for_room};
 use super::{chain, Ended, Task, PIECE};
-use crate::limits::{GONE_NAME_BYTES, STORED_NAME_BYTES};
-use crate::queues::ask::{Ask, Cause, Outcome, StoreName, TableChange};
-use crate::queues::book::{self, AttemptRequest};
-use crate::queues::Queue;
 use crate::store::Operation;
 
 /// No queue of the store has this name: theirs have numbers. A receive of it does nothing but move the store's moment on.

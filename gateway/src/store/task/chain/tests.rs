@@ -6,17 +6,17 @@ use hobbychair_bytes::parts::Frames;
 use hobbychair_sqs::envelope::Envelope;
 use hobbychair_sqs::errors::SqsError;
 use hobbychair_sqs::texts::{DedupId, GroupId, QueueName};
+use hobbychair_tables::ask::{Ask, Cause, Outcome, StoreName, TableChange};
+use hobbychair_tables::book::QueueEntry;
+use hobbychair_tables::clock::Clock;
+use hobbychair_tables::shards::Shards;
+use hobbychair_tables::{Queue, Queues};
 use tokio::io::AsyncWriteExt;
 use tokio::net::unix::{OwnedReadHalf, OwnedWriteHalf};
 use tokio::net::UnixStream;
 
 use super::*;
-use crate::clock::Clock;
 use crate::cq::Cq;
-use crate::queues::ask::{Ask, Cause, Outcome, StoreName, TableChange};
-use crate::queues::book::QueueEntry;
-use crate::queues::shards::Shards;
-use crate::queues::{Queue, Queues};
 use crate::store::task::{start, Kept, NodeStart, Start};
 use crate::store::{wanted_until, Answer as Answered, Store};
 
@@ -82,7 +82,7 @@ fn chain() -> (Store, Arc<Queue>, Node) {
     let queues = Arc::<Queues>::default();
     let entry = QueueEntry::plain(StoreName(1), QueueName::parse("q.fifo").unwrap(), 1);
     let queue = Arc::new(Queue::new(&entry));
-    queues.said(0, &queue, &crate::queues::book::Entry::Queue(entry), 1, 0);
+    queues.said(0, &queue, &hobbychair_tables::book::Entry::Queue(entry), 1, 0);
     let (store, _) = start(Start {
         program: String::new(),
         patience: Duration::MAX,

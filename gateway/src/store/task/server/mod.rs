@@ -17,13 +17,13 @@ use hobbychair_bytes::moment::Moment;
 use hobbychair_bytes::parts::{Cutter, Malformed, FRAME_LIMIT};
 use hobbychair_bytes::values::{BadFrame, StoreAnswer};
 use hobbychair_sqs::errors::SqsError;
+use hobbychair_tables::ask::{Ask, Cause, Outcome};
 use tokio::time::Instant;
 
 use super::chain::{is_answer_to, take_due};
 use super::entries::{Entry, Open};
 use super::room::{adds, refusal_for_room};
 use super::{Ended, Task};
-use crate::queues::ask::{Ask, Cause, Outcome};
 
 /// After this time something is tried again for which there was no memory.
 const PAUSE: Duration = Duration::from_millis(50);

@@ -7,18 +7,18 @@ use hobbychair_bytes::values::{Receipt, StoreReply};
 use hobbychair_sqs::envelope::Envelope;
 use hobbychair_sqs::handles::Origin;
 use hobbychair_sqs::texts::{DedupId, GroupId, QueueName};
+use hobbychair_tables::ask::{Ask, Cause, Outcome, StoreName};
+use hobbychair_tables::book::QueueEntry;
+use hobbychair_tables::clock::Clock;
+use hobbychair_tables::shards::Shards;
+use hobbychair_tables::{Queue, Queues};
 use tokio::io::AsyncWriteExt;
 use tokio::net::unix::{OwnedReadHalf, OwnedWriteHalf};
 use tokio::net::UnixStream;
 use tokio::task::JoinHandle;
 
 use super::*;
-use crate::clock::Clock;
 use crate::cq::Cq;
-use crate::queues::ask::{Ask, Cause, Outcome, StoreName};
-use crate::queues::book::QueueEntry;
-use crate::queues::shards::Shards;
-use crate::queues::{Queue, Queues};
 use crate::store::task::clients::COUNTER;
 use crate::store::task::{start, Ends, Kept, Start};
 use crate::store::{Answer as Answered, Copy, Store};
@@ -129,7 +129,7 @@ fn store_of(names: &[&str]) -> (Store, Vec<Arc<Queue>>, Program, Ends) {
     for (number, name) in (1..).zip(names) {
         let entry = QueueEntry::plain(StoreName(number), QueueName::parse(name).unwrap(), number);
         let queue = Arc::new(Queue::new(&entry));
-        tables.said(0, &queue, &crate::queues::book::Entry::Queue(entry), 1, 0);
+        tables.said(0, &queue, &hobbychair_tables::book::Entry::Queue(entry), 1, 0);
         queues.push(queue);
     }
     let (store, ends) = start(Start {

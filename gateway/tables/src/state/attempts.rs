@@ -7,8 +7,8 @@ use hobbychair_bytes::moment::Moment;
 use hobbychair_sqs::texts::AttemptId;
 
 use super::WINDOW;
-use crate::queues::ask::Handed;
-use crate::queues::book::AttemptRequest;
+use crate::ask::Handed;
+use crate::book::AttemptRequest;
 
 /// What a receive with an attempt id was given.
 #[derive(Clone, Debug)]

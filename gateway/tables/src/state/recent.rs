@@ -9,7 +9,7 @@ use hobbychair_bytes::moment::Moment;
 use hobbychair_sqs::texts::{DedupId, QueueKind};
 
 use super::{State, WINDOW};
-use crate::queues::ask::Outcome;
+use crate::ask::Outcome;
 
 /// A send whose deduplication id counts.
 #[derive(Clone, Copy, Debug)]

@@ -7,8 +7,7 @@ use std::sync::Arc;
 use hobbychair_bytes::moment::Moment;
 use hobbychair_bytes::values::Receipt;
 use hobbychair_sqs::envelope::message_id;
-use hobbychair_sqs::handles::Mark;
-use hobbychair_sqs::handles::Origin;
+use hobbychair_sqs::handles::{Mark, Origin};
 use hobbychair_sqs::texts::{AttemptId, CallKey, QueueKind};
 
 use super::attempts::Attempt;
@@ -16,16 +15,16 @@ use super::delayed::First;
 use super::message::{Handing, Message};
 use super::recent::RecentSend;
 use super::{State, WINDOW};
-use crate::queues::ask::Handed;
-use crate::queues::book::AttemptEntry;
-use crate::queues::image::{AcceptedSend, Named, StoredMessage, StoredQueue};
+use crate::ask::Handed;
+use crate::book::AttemptEntry;
+use crate::image::{AcceptedSend, Named, StoredMessage, StoredQueue};
 #[cfg(test)]
-use crate::queues::tasks::MoveTask;
+use crate::tasks::MoveTask;
 
 impl State {
     /// Takes up the messages that the store has, whose last entry is of the moment `last`, and counts each in `far`. Tells what they
     /// name.
-    pub(in crate::queues) fn take_up(
+    pub(crate) fn take_up(
         &mut self,
         stored: StoredQueue,
         (last, far): (Moment, &AtomicU64),
@@ -139,7 +138,7 @@ impl State {
     }
 
     /// Takes up which calls have sent messages to the queue beside this one, of this mark.
-    pub(in crate::queues) fn take_up_delayed_calls(&mut self, delays: Mark, sends: &[AcceptedSend], last: Moment) {
+    pub(crate) fn take_up_delayed_calls(&mut self, delays: Mark, sends: &[AcceptedSend], last: Moment) {
         self.calls.take_up(calls_of(sends, last, |sequence| First::Delayed(message_id(delays, sequence))));
         self.last_send = sends.last().map_or(0, |send| send.moment).max(self.last_send);
     }

@@ -14,7 +14,7 @@ use serde::{Deserialize, Serialize};
 use uuid::Uuid;
 
 use super::book::Entry;
-use crate::queues::tasks::MoveTask;
+use crate::tasks::MoveTask;
 
 /// The name under which a queue stands in the store: a number, and another one each time. Queues that have the parts of
 /// large messages have numbers of their own, and so have books. One that has what is delayed has that of the queue beside

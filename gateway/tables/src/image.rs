@@ -20,8 +20,8 @@ use super::book::{form_said_by, size_of_text, AttemptEntry, AttemptRequest, Entr
 use super::groups::Group;
 use super::shards::Shard;
 use super::{Queue, Queues};
-use crate::queues::copies::CopyId;
-use crate::queues::tasks::MoveTask;
+use crate::copies::CopyId;
+use crate::tasks::MoveTask;
 
 /// Why there are no tables of a store's bytes.
 #[derive(Debug, Error)]

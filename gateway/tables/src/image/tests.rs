@@ -10,9 +10,9 @@ use proptest::sample::Index;
 use proptest::test_runner::TestCaseResult;
 
 use super::*;
-use crate::queues::book::{ProgramEntry, QueueEntry};
-use crate::queues::shards::Shards;
-use crate::store::living::{steps, told, Living, Seen, Step};
+use crate::book::{ProgramEntry, QueueEntry};
+use crate::living::{steps, told, Living, Seen, Step};
+use crate::shards::Shards;
 
 /// The tables that are made of what was there behind a request.
 fn made_of(seen: &Seen, shards: Shards, keeps_copies: bool, parts: usize) -> Queues {

@@ -74,8 +74,8 @@ mod tests {
     use hobbychair_sqs::texts::{DedupId, GroupId};
 
     use super::*;
-    use crate::queues::ask::{Cause, Changer, PartsCause, Reach};
-    use crate::queues::book::{Entry, ProgramEntry};
+    use crate::ask::{Cause, Changer, PartsCause, Reach};
+    use crate::book::{Entry, ProgramEntry};
 
     const QUEUE: StoreName = StoreName(7);
 

@@ -187,7 +187,7 @@ mod tests {
     use hobbychair_bytes::values::{Delivery, Receipt};
 
     use super::*;
-    use crate::queues::ask::PartsCause;
+    use crate::ask::PartsCause;
 
     fn freed(parts: &Parts) -> Vec<u64> {
         let mut freed = parts.take_those_freed();

@@ -1,14 +1,17 @@
 //! Looks at messages as they stand in a queue. A look receives nothing and changes nothing.
 
+use std::fmt;
+use std::str::FromStr;
 use std::sync::Arc;
 
 use hobbychair_bytes::moment::Moment;
+use hobbychair_sqs::errors::SqsError;
 
 use super::delayed::Place;
 use super::message::Message;
 use super::{Applied, State};
-use crate::queues::ask::{Ask, Outcome};
-use crate::queues::Queue;
+use crate::ask::{Ask, Outcome};
+use crate::Queue;
 
 /// Where a look goes on: behind a message by its sequence number, or behind a delayed one of a standard queue, by when
 /// that is due and its number in the queue where it stands.
@@ -20,6 +23,33 @@ pub enum Cursor {
 
 impl Cursor {
     pub const FIRST: Cursor = Cursor::Stored(0);
+}
+
+/// As operators are told it.
+impl fmt::Display for Cursor {
+    fn fmt(&self, formatter: &mut fmt::Formatter<'_>) -> fmt::Result {
+        match self {
+            Cursor::Stored(sequence) => write!(formatter, "stored-{sequence}"),
+            Cursor::Delayed(due, added) => write!(formatter, "delayed-{due}-{added}"),
+        }
+    }
+}
+
+/// The cursor of a text that they were told; any other is `InvalidParameterValue`.
+impl FromStr for Cursor {
+    type Err = SqsError;
+
+    fn from_str(text: &str) -> Result<Cursor, SqsError> {
+        let parts: Vec<_> = text.split('-').collect();
+        let cursor = match parts[..] {
+            ["stored", sequence] => sequence.parse().ok().map(Cursor::Stored),
+            ["delayed", due, added] => {
+                due.parse().ok().zip(added.parse().ok()).map(|(due, added)| Cursor::Delayed(due, added))
+            }
+            _ => None,
+        };
+        cursor.ok_or_else(|| SqsError::InvalidParameterValue("NextToken is none that was given out.".into()))
+    }
 }
 
 /// Why a receive can't be handed a message, or that it can, if nothing before the message is in its way.
@@ -65,7 +95,7 @@ impl Queue {
 
 impl State {
     /// Keeps what was sent, so that it can be looked at.
-    pub(in crate::queues) fn keep_copy(&mut self, ask: &Ask, applied: &Applied) {
+    pub(crate) fn keep_copy(&mut self, ask: &Ask, applied: &Applied) {
         let (Ask::Send { group, envelope, .. }, Outcome::Sent { sequence, .. }) = (ask, &applied.outcome) else {
             return;
         };

@@ -16,7 +16,7 @@ use proptest::test_runner::TestCaseResult;
 use super::ask::{Ask, Cause, Changer, Outcome, Reach, StoreName, TableChange};
 use super::book::{Entry, QueueEntry};
 use super::State;
-use crate::queues::jumps::Jumps;
+use crate::jumps::Jumps;
 
 #[derive(Clone, Debug)]
 struct Message {

@@ -8,7 +8,7 @@ use uuid::Uuid;
 use super::delayed::First;
 use super::message::Message;
 use super::State;
-use crate::queues::ask::Outcome;
+use crate::ask::Outcome;
 
 impl State {
     pub(super) fn set_delay(&mut self, delay: u64) {

@@ -8,9 +8,9 @@ use hobbychair_sqs::handles::Handle;
 use hobbychair_sqs::texts::{DedupId, QueueName};
 
 use super::*;
-use crate::queues::ask::{StoreName, TableChange};
-use crate::queues::book::{Entry, Purging};
-use crate::queues::{Queue, Queues};
+use crate::ask::{StoreName, TableChange};
+use crate::book::{Entry, Purging};
+use crate::{Queue, Queues};
 
 fn state() -> State {
     state_of("q.fifo")

@@ -9,7 +9,7 @@ use hobbychair_bytes::moment::Moment;
 use hobbychair_sqs::texts::QueueName;
 
 use super::numbers::Numbers;
-use crate::queues::groups::{Group, Groups};
+use crate::groups::{Group, Groups};
 
 /// A message that isn't deleted.
 #[derive(Debug)]

@@ -13,7 +13,7 @@ use uuid::Uuid;
 
 use super::ask::StoreName;
 use crate::limits::{MESSAGE_BYTES, STORED_MESSAGE_BYTES};
-use crate::queues::tasks::MoveTask;
+use crate::tasks::MoveTask;
 
 /// What an entry says.
 #[derive(Clone, Debug, PartialEq, Eq, Serialize, Deserialize)]

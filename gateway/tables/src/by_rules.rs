@@ -7,7 +7,7 @@ use hobbychair_bytes::moment::Moment;
 use hobbychair_bytes::values::written::{append, chunk};
 use hobbychair_bytes::values::{Delivery, KeptHandings, Part, QueuePart, Receipt, StoreAsk, StoreReply};
 
-use crate::queues::ask::StoreName;
+use crate::ask::StoreName;
 
 const WINDOW: u64 = 300_000;
 

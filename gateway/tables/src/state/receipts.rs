@@ -7,8 +7,8 @@ use hobbychair_sqs::handles::Handle;
 
 use super::message::Message;
 use super::State;
-use crate::queues::ask::Fate;
-use crate::queues::jumps::Jumps;
+use crate::ask::Fate;
+use crate::jumps::Jumps;
 
 impl State {
     /// The receipt of this handing of this message.

@@ -6,10 +6,10 @@ use hobbychair_bytes::moment::Moment;
 use hobbychair_sqs::attributes::QueueAttributes;
 
 use super::{delay_of_all, State};
+use crate::ask::TableChange;
+use crate::book::{Entry, Purging, QueueEntry, Removal};
 use crate::limits::QUEUE_BYTES;
-use crate::queues::ask::TableChange;
-use crate::queues::book::{Entry, Purging, QueueEntry, Removal};
-use crate::queues::tasks::{self, MoveTask};
+use crate::tasks::{self, MoveTask};
 
 /// What an entry changed.
 #[derive(Clone, Copy, Debug, Default, PartialEq, Eq)]

@@ -3,7 +3,7 @@
 use hobbychair_bytes::moment::Moment;
 
 use super::State;
-use crate::queues::jumps::Jumps;
+use crate::jumps::Jumps;
 
 impl State {
     pub(super) fn horizon(&self, jumps: &Jumps, now: Moment) -> Option<Moment> {

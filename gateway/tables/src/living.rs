@@ -15,12 +15,12 @@ use proptest::sample::{select, Index};
 use uuid::Uuid;
 
 use super::by_rules::StoreByRules;
-use crate::queues::ask::{Ask, Cause, Changer, Handed, Outcome, PartsAsk, PartsCause, Reach, StoreName, TableChange};
-use crate::queues::book::{Entry, ProgramEntry, QueueEntry};
-use crate::queues::copies::CopyId;
-use crate::queues::shards::Shards;
-use crate::queues::tasks::{MoveTask, Status};
-use crate::queues::{Queue, Queues};
+use crate::ask::{Ask, Cause, Changer, Handed, Outcome, PartsAsk, PartsCause, Reach, StoreName, TableChange};
+use crate::book::{Entry, ProgramEntry, QueueEntry};
+use crate::copies::CopyId;
+use crate::shards::Shards;
+use crate::tasks::{MoveTask, Status};
+use crate::{Queue, Queues};
 
 const NAMES: [&str; 4] = ["a", "b.fifo", "c", "d.fifo"];
 

@@ -7,8 +7,8 @@ use hobbychair_sqs::texts::{QueueKind, QueueName};
 
 use super::message::Message;
 use super::State;
-use crate::queues::groups::Groups;
-use crate::queues::jumps::Jumps;
+use crate::groups::Groups;
+use crate::jumps::Jumps;
 
 /// So long groups are kept that nobody needs, in milliseconds.
 const KEPT: u64 = 60_000;
