@@ -7,6 +7,7 @@ use std::sync::{Arc, OnceLock};
 use std::time::Duration;
 
 use bytes::Bytes;
+use hobbychair_store::Store;
 use hobbychair_tables::ask::Outcome;
 use hobbychair_tables::budget::Share;
 use hyper::header::{HeaderMap, HeaderValue, CONTENT_TYPE};
@@ -19,7 +20,6 @@ use tokio::sync::Semaphore;
 use crate::http::{to_be_written, Hosts, Progress, Watched, LONGEST_HEAD};
 use crate::metrics::{Counts, Metrics};
 use crate::peek::{self, Peeks};
-use crate::store::Store;
 
 /// So long a look waits for the programs that keep the queues.
 const LONGEST_LOOK: Duration = Duration::from_secs(2);

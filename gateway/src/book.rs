@@ -11,7 +11,7 @@ use hobbychair_tables::ask::{Ask, StoreName};
 use hobbychair_tables::book::{Entry, ProgramEntry, Removal};
 use hobbychair_tables::Queue;
 
-use crate::store::{Operation, Store};
+use hobbychair_store::{Operation, Store};
 
 /// So often books are looked at.
 const PAUSE: Duration = Duration::from_millis(250);

@@ -9,12 +9,12 @@ use anyhow::Result;
 use clap::ValueEnum;
 use hobbychair_cluster::identity::IdentityFiles;
 use hobbychair_cluster::memory;
+use hobbychair_store::journal::Files;
 use hobbychair_tables::shards::Shards;
 use serde::Deserialize;
 
 use crate::actions::{Owner, Pauses};
 use crate::front;
-use crate::journal::Files;
 use crate::misuse::Misuse;
 use crate::serve::Settings;
 
@@ -585,8 +585,9 @@ fn read_file(path: &Path) -> Result<Options> {
 
 #[cfg(test)]
 mod tests {
+    use hobbychair_store::cq::Making;
+
     use super::*;
-    use crate::cq::Making;
 
     fn settings(options: Options) -> Result<Settings> {
         options.settings(|named| Ok(named.unwrap_or_else(|| "cq".into())))

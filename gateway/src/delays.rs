@@ -8,11 +8,11 @@ use std::collections::HashMap;
 use std::sync::Arc;
 
 use hobbychair_sqs::errors::SqsError;
+use hobbychair_store::{Held, Store};
 use hobbychair_tables::ask::Handed;
 use hobbychair_tables::Queue;
 
 use crate::moves::{move_due, show_again};
-use crate::store::{Held, Store};
 
 /// So many messages are moved, or handed out, at once.
 const AT_ONCE: usize = 10;

@@ -4,12 +4,12 @@ use std::collections::HashSet;
 use std::sync::Arc;
 
 use hobbychair_sqs::errors::SqsError;
+use hobbychair_store::{spawn_wanted, Answer, Store};
 use hobbychair_tables::ask::{Ask, Fate, Handed, Outcome, Reach};
 use hobbychair_tables::Queue;
 
 use crate::delays::bring_up_to_date;
 use crate::moves::{give_back, move_to_target};
-use crate::store::{spawn_wanted, Answer, Store};
 
 /// The most messages to which the gateway sees itself in one request before it answers.
 const MOST_OWN: usize = 100;

@@ -8,13 +8,13 @@ use hobbychair_sqs::access::Keys;
 use hobbychair_sqs::action::Action;
 use hobbychair_sqs::errors::SqsError;
 use hobbychair_sqs::texts::QueueName;
+use hobbychair_store::Store;
 use hobbychair_tables::ask::{Handed, TableChange};
 use hobbychair_tables::tasks::{MoveTask, Status};
 use hobbychair_tables::Queue;
 use uuid::Uuid;
 
 use crate::moves::move_each;
-use crate::store::Store;
 
 /// The keys that say where a task may move messages to; none where everybody may do everything.
 pub type Rights = Option<Arc<Keys>>;

@@ -17,12 +17,12 @@ use hobbychair_sqs::envelope::{message_id, EnvelopeHead};
 use hobbychair_sqs::errors::SqsError;
 use hobbychair_sqs::handles::Origin;
 use hobbychair_sqs::texts::{DedupId, GroupId, QueueKind};
+use hobbychair_store::{Copy, Held, Store};
 use hobbychair_tables::ask::{Ask, Cause, Changer, Fate, Handed, PartsCause};
 use hobbychair_tables::copies::CopyId;
 use hobbychair_tables::Queue;
 
 use crate::parts;
-use crate::store::{Copy, Held, Store};
 
 /// So long a message waits for its next deletion, where one failed after it was copied.
 const PAUSE: Duration = Duration::from_secs(1);

@@ -10,12 +10,12 @@ use std::time::Duration;
 
 use hobbychair_sqs::envelope::{parts_of, EnvelopeHead};
 use hobbychair_sqs::errors::SqsError;
+use hobbychair_store::{spawn_wanted, Answer, Operation, Store};
 use hobbychair_tables::ask::{Ask, Handed, Outcome, PartsAsk, PartsCause};
 use hobbychair_tables::budget::Share;
 use hobbychair_tables::Queue;
 
 use crate::delays;
-use crate::store::{spawn_wanted, Answer, Operation, Store};
 
 /// So many parts are removed at once.
 const REMOVED_AT_ONCE: usize = 32;

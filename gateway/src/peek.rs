@@ -9,6 +9,7 @@ use hobbychair_sqs::texts::QueueName;
 use hobbychair_sqs::wire::requests::Shown;
 use hobbychair_sqs::wire::responses::ReceivedMessage;
 use hobbychair_sqs::wire::{self, Protocol, Reply};
+use hobbychair_store::Store;
 use hobbychair_tables::ask::Handed;
 use hobbychair_tables::budget::{Budget, Share};
 use hobbychair_tables::{Chunk, Cursor, Peeked, Queue, Visibility};
@@ -20,7 +21,6 @@ use uuid::Uuid;
 
 use crate::actions::{show, Owner};
 use crate::parts::{self, Read};
-use crate::store::Store;
 
 /// The path, behind which a region, an account and a queue may stand.
 pub const PATH: &str = "/_aws/sqs/messages";

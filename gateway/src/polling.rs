@@ -4,6 +4,7 @@ use std::sync::Arc;
 use std::time::Duration;
 
 use hobbychair_sqs::errors::SqsError;
+use hobbychair_store::Store;
 use hobbychair_tables::ask::{Ask, Outcome};
 use hobbychair_tables::presence::Presence;
 use hobbychair_tables::waiting::{AnswerMemory, Poll, PollResult, Room};
@@ -13,7 +14,6 @@ use tokio::time::Instant;
 
 use crate::deliveries::{ask_all, see_to, Seen};
 use crate::ending::Ending;
-use crate::store::Store;
 
 /// Refuses a receive of so many messages before it is handed any, where its answer may not find room.
 pub fn test_room(room: Room, queue: &Queue, size: u8) -> Result<(), SqsError> {

@@ -5,11 +5,11 @@ use std::sync::Arc;
 use std::time::Duration;
 
 use hobbychair_sqs::errors::SqsError;
+use hobbychair_store::{Held, Store};
 use hobbychair_tables::ask::TableChange;
 use hobbychair_tables::Queue;
 
 use crate::retention::delete_next;
-use crate::store::{Held, Store};
 
 /// How many deletes are asked for at once, how many messages are looked at while others wait, and how many the gateway
 /// hands to itself at once.

@@ -8,7 +8,7 @@ use hobbychair_sqs::errors::SqsError;
 use hobbychair_tables::book::Entry;
 use hobbychair_tables::Queue;
 
-use crate::store::{Held, Operation, Store};
+use hobbychair_store::{Held, Operation, Store};
 
 /// Of the time between the last record of a journal and the start that finds it, so much makes messages older, in
 /// milliseconds.

@@ -10,13 +10,13 @@ use hobbychair_sqs::texts::{Body, DedupId, GroupId, QueueKind, QueueName};
 use hobbychair_sqs::wire::requests::{Batch, NewMessage, Sending, VisibilityChange};
 use hobbychair_sqs::wire::responses::{Failed, Sent, Succeeded};
 use hobbychair_sqs::wire::Response;
+use hobbychair_store::{Answer, Operation};
 use hobbychair_tables::ask::{Ask, Cause, Changer, Outcome};
 use hobbychair_tables::Queue;
 use uuid::Uuid;
 
 use super::{Actions, Caller, Performed};
 use crate::parts;
-use crate::store::{Answer, Operation};
 
 impl Actions {
     pub(super) async fn send(

@@ -18,6 +18,7 @@ use hobbychair_sqs::action::Action;
 use hobbychair_sqs::errors::SqsError;
 use hobbychair_sqs::texts::QueueName;
 use hobbychair_sqs::wire::{Request, Response};
+use hobbychair_store::Store;
 use hobbychair_tables::budget::Share;
 use hobbychair_tables::presence::Presence;
 use hobbychair_tables::Queue;
@@ -27,7 +28,6 @@ use uuid::Uuid;
 use crate::ending::Ending;
 use crate::metrics::Metrics;
 use crate::move_tasks::Rights;
-use crate::store::Store;
 pub use receiving::show;
 
 /// Who asks.

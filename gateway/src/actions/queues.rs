@@ -8,6 +8,7 @@ use hobbychair_sqs::texts::QueueName;
 use hobbychair_sqs::wire::requests::{test_count_of_tags, Tags};
 use hobbychair_sqs::wire::tokens::token_behind;
 use hobbychair_sqs::wire::Response;
+use hobbychair_store::Answer;
 use hobbychair_tables::ask::{Outcome, TableChange};
 use hobbychair_tables::book::QueueEntry;
 use hobbychair_tables::Queue;
@@ -16,7 +17,6 @@ use super::{Actions, Caller, Pauses, Performed, LONGEST_PAGE};
 use crate::book;
 use crate::delays::bring_up_to_date;
 use crate::purges::purge;
-use crate::store::Answer;
 
 /// So long a queue can't be purged again, in milliseconds (API Reference, PurgeQueue, `PurgeQueueInProgress`).
 const PURGE_PAUSE: u64 = 60_000;

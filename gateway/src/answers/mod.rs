@@ -13,10 +13,10 @@ use std::path::{Path, PathBuf};
 use anyhow::{Context, Result};
 use hobbychair_bytes::journal::JournalFile;
 use hobbychair_bytes::moment::Moment;
+use hobbychair_store::cq::{test_built, test_version};
 use tokio::runtime;
 use tokio::sync::mpsc;
 
-use crate::cq::{test_built, test_version};
 use crate::inspect::{files_there, open_journal_file};
 
 /// So many lines of a file may wait for earlier ones of others.

@@ -12,15 +12,15 @@ use hobbychair_bytes::journal::{JournalFile, JournalFileError, Kept};
 use hobbychair_bytes::moment::Moment;
 use hobbychair_bytes::parts::{Cutter, FRAME_LIMIT};
 use hobbychair_bytes::values::{BadFrame, Part, StoreAnswer, StoreEntry, StoreReader, StoreReply, StoreRequest};
+use hobbychair_store::cq::{Cq, CqError};
+use hobbychair_store::pipes::{Input, Output};
 use tokio::io::{AsyncReadExt, AsyncWriteExt};
 use tokio::sync::mpsc;
 
 use super::names::Names;
 use super::{Source, Told};
-use crate::cq::{Cq, CqError};
 use crate::history::line::Line;
 use crate::history::stored::{line_of_chunk, line_of_request, told};
-use crate::pipes::{Input, Output};
 
 /// So many bytes are written at once, or a little more.
 const BATCH: usize = 64 * 1024;

@@ -11,7 +11,7 @@ use hobbychair_tables::book::{form_said_by, Entry, ProgramEntry, FORM};
 use hobbychair_tables::ImageError;
 use serde::Deserialize;
 
-use crate::journal::JournalError;
+use hobbychair_store::journal::JournalError;
 
 /// A line of `cq dump` that tells a chunk of a store.
 #[derive(Deserialize)]

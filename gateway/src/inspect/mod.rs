@@ -11,9 +11,9 @@ use anyhow::{anyhow, bail, Context, Result};
 use hobbychair_bytes::journal::{JournalFile, JournalFileError, SERVER};
 use serde::Deserialize;
 
-use crate::cq::is_blank;
-use crate::disk::{lack_of_space, taken};
-use crate::journal::{
+use hobbychair_store::cq::is_blank;
+use hobbychair_store::disk::{lack_of_space, taken};
+use hobbychair_store::journal::{
     emptied, file_of, files_found, files_of, has_had_requests, has_own_form, lost, open_file, test_path, JournalError,
 };
 

@@ -1,8 +1,15 @@
-//! The store: asks in, answers out. One task owns each program's pipe.
+//! The store: asks in, answers out. One task owns each program's pipe, or a node's.
+//!
+//! What keeps the store is a process of `cq server`, with or without a file of a journal, or a chain of servers behind a node. The
+//! tables follow what it answers. Of HTTP and of actions nothing is known here, and of a cluster the pipe alone.
 
 mod admission;
 mod beside_node;
+pub mod cq;
+pub mod disk;
 mod figures;
+pub mod journal;
+pub mod pipes;
 mod task;
 mod told;
 

@@ -15,7 +15,7 @@ pub(super) fn refusal_for_room(adds: bool) -> SqsError {
 }
 
 /// Whether a client asked for it, and it does something that nobody wants once that client waits no more.
-pub(in crate::store) fn is_for_client(ask: &Ask) -> bool {
+pub(crate) fn is_for_client(ask: &Ask) -> bool {
     match ask {
         Ask::Receive { reach, .. } => reach.is_for_client(),
         Ask::Delete { by_client, .. } => *by_client,

@@ -7,7 +7,7 @@ use hobbychair_tables::ask::Ask;
 use hobbychair_tables::Queue;
 
 use super::room::adds;
-use crate::store::{Answer, AnswerSender, Operation};
+use crate::{Answer, AnswerSender, Operation};
 
 /// Something whose answer is due. Answers are given in the order of the requests.
 pub(super) struct Open {

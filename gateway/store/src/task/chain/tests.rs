@@ -17,8 +17,8 @@ use tokio::net::UnixStream;
 
 use super::*;
 use crate::cq::Cq;
-use crate::store::task::{start, Kept, NodeStart, Start};
-use crate::store::{wanted_until, Answer as Answered, Store};
+use crate::task::{start, Kept, NodeStart, Start};
+use crate::{wanted_until, Answer as Answered, Store};
 
 /// The other end of the gateway's pipe.
 struct Node {

@@ -19,9 +19,9 @@ use tokio::task::JoinHandle;
 
 use super::*;
 use crate::cq::Cq;
-use crate::store::task::clients::COUNTER;
-use crate::store::task::{start, Ends, Kept, Start};
-use crate::store::{Answer as Answered, Copy, Store};
+use crate::task::clients::COUNTER;
+use crate::task::{start, Ends, Kept, Start};
+use crate::{Answer as Answered, Copy, Store};
 
 /// The other end of the gateway's pipe.
 struct Program {
