@@ -9,17 +9,15 @@ use clap::{Args, CommandFactory, Parser, Subcommand};
 use clap_complete::Shell;
 use hobbychair_bytes::characters::escaped;
 use hobbychair_cluster::command_line as cluster;
+use hobbychair_tools::draw::{draw, Drawing};
+use hobbychair_tools::misuse::Misuse;
+use hobbychair_tools::shell::{self, Shell as ChainShell};
+use hobbychair_tools::{answers, history, inspect};
 
-use crate::answers;
 use crate::config::{LogFormat, LogLevel, LogSettings, Options};
-use crate::draw::{draw, Drawing};
 use crate::front;
-use crate::history;
-use crate::inspect;
 use crate::log;
-use crate::misuse::Misuse;
 use crate::serve::{self, serve};
-use crate::shell::{self, Shell as ChainShell};
 
 /// The variable that names the program cq.
 const PROGRAM: &str = "HOBBYCHAIR_CQ";

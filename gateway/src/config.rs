@@ -11,11 +11,11 @@ use hobbychair_cluster::identity::IdentityFiles;
 use hobbychair_cluster::memory;
 use hobbychair_store::journal::Files;
 use hobbychair_tables::shards::Shards;
+use hobbychair_tools::misuse::Misuse;
 use serde::Deserialize;
 
 use crate::actions::{Owner, Pauses};
 use crate::front;
-use crate::misuse::Misuse;
 use crate::serve::Settings;
 
 /// The options of `serve`. A file has the same names, and each option has a variable: `HOBBYCHAIR_` and its name.

@@ -22,6 +22,7 @@ use hobbychair_cluster::identity::{IdentityFiles, Role};
 use hobbychair_sqs::action::Action;
 use hobbychair_sqs::errors::SqsError;
 use hobbychair_tables::budget::{Budget, Share};
+use hobbychair_tools::misuse::Misuse;
 use hyper::header::{HeaderValue, CONNECTION};
 use hyper::server::conn::Http;
 use hyper::service::service_fn;
@@ -43,7 +44,6 @@ use crate::config::Address;
 use crate::ending::{End, Ending};
 use crate::http::{bodies, is_of_this_machine, listen, protocol_of, refused, to_be_written, Places};
 use crate::http::{Progress, Watched, LONGEST_HEAD};
-use crate::misuse::Misuse;
 use crate::serve::{listen_for_operators, log_read_again, notify_supervisor, say};
 use crate::tls::{Certificate, LONGEST_HANDSHAKE};
 

@@ -9,7 +9,7 @@ use super::groups::Groups;
 use super::session::{Outcome, Session};
 use super::view;
 use super::words::Word;
-use crate::chain::{Party, Reply, Way};
+use crate::watch::{Party, Reply, Way};
 
 /// A request takes so long by the clock.
 const REQUEST_TIME: u64 = 1_000;

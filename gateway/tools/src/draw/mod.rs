@@ -16,8 +16,8 @@ use std::io::{Read, Write};
 use anyhow::{bail, Context, Result};
 use clap::Args;
 
-use crate::chain::SHOW;
 use crate::misuse::Misuse;
+use crate::watch::SHOW;
 
 /// A picture of more lines than that is none that a person can read.
 const LINES_LIMIT: usize = 2_000;

@@ -3,7 +3,7 @@
 use anyhow::{Context, Result};
 use serde_json::Value;
 
-use crate::chain::Party;
+use crate::watch::Party;
 
 /// What a line says. `cq` has read it before.
 #[derive(Clone, Debug, PartialEq, Eq)]

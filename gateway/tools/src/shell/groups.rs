@@ -4,7 +4,7 @@ use std::collections::{BTreeMap, BTreeSet, HashMap};
 
 use serde_json::Value;
 
-use crate::chain::Reply;
+use crate::watch::Reply;
 
 /// The visibility timeout of a queue that was made without one, in seconds.
 const VISIBILITY: u64 = 30;

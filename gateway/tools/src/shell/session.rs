@@ -6,7 +6,7 @@ use std::process::{Child, ChildStdin, ChildStdout};
 use anyhow::{Context, Result};
 use serde_json::Value;
 
-use crate::chain::{watching, Reply, Shown, Told, SHOW};
+use crate::watch::{watching, Reply, Shown, Told, SHOW};
 
 /// What came of a line.
 #[derive(Clone, Debug)]

@@ -4,7 +4,7 @@ use super::events::Event;
 use super::run::{Run, Step};
 use super::scene::{Kind, Scene};
 use super::{svg, text};
-use crate::chain::{Shown, Told};
+use crate::watch::{Shown, Told};
 
 /// A chain of two servers, of which the first has so many entries; with what is on its way.
 fn shown(count: u64, is_down: bool, ways: &str) -> Shown {

@@ -6,8 +6,8 @@ use std::thread;
 use anyhow::{anyhow, bail, Context, Result};
 
 use super::events::Event;
-use crate::chain::{watching, Reply, Shown, Told, SHOW};
 use crate::misuse::Misuse;
+use crate::watch::{watching, Reply, Shown, Told, SHOW};
 
 /// What came of one line that isn't blank.
 pub struct Step {

@@ -5,7 +5,7 @@ use std::collections::BTreeMap;
 use serde_json::Value;
 
 use super::groups::Count;
-use crate::chain::{Party, Reply, Shown, ShownServer, Way};
+use crate::watch::{Party, Reply, Shown, ShownServer, Way};
 
 pub fn servers(count: u8) -> String {
     match count {

@@ -6,7 +6,7 @@ use serde_json::Value;
 
 use super::events::Event;
 use super::run::{Run, Step};
-use crate::chain::{Party, Reply, Shown, ShownServer};
+use crate::watch::{Party, Reply, Shown, ShownServer};
 
 /// Whose line of time it is, in the order in which they stand.
 #[derive(Clone, Copy, Debug, PartialEq, Eq, PartialOrd, Ord, Hash)]
