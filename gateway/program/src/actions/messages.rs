@@ -16,7 +16,7 @@ use hobbychair_tables::Queue;
 use uuid::Uuid;
 
 use super::{Actions, Caller, Performed};
-use crate::parts;
+use crate::work::parts;
 
 impl Actions {
     pub(super) async fn send(

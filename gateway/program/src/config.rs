@@ -680,7 +680,7 @@ mod tests {
 
     #[test]
     fn the_example_is_read_with_each_of_its_lines() {
-        let example = include_str!("../../packaging/hobbychair.toml");
+        let example = include_str!("../../../packaging/hobbychair.toml");
         assert!(toml::from_str::<Options>(example).unwrap().queue.is_empty());
         let whole: Vec<_> = example
             .lines()

@@ -39,11 +39,11 @@ use self::headers::{Asked, Came};
 use self::operators::{Figures, Operators};
 use self::passing::Passing;
 use self::testing::Testing;
-use crate::admin::serve_operators;
 use crate::config::Address;
 use crate::ending::{End, Ending};
 use crate::http::{bodies, is_of_this_machine, listen, protocol_of, refused, to_be_written, Places};
 use crate::http::{Progress, Watched, LONGEST_HEAD};
+use crate::operators::admin::serve_operators;
 use crate::serve::{listen_for_operators, log_read_again, notify_supervisor, say};
 use crate::tls::{Certificate, LONGEST_HANDSHAKE};
 

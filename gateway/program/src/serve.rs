@@ -12,7 +12,6 @@ use anyhow::{anyhow, bail, Context, Result};
 use hobbychair_bytes::moment::Moment;
 use hobbychair_cluster::identity::{Identity, IdentityFiles, Role};
 use hobbychair_sqs::access::Keys;
-use hobbychair_store as store;
 use hobbychair_store::cq::{test_built, test_version, Cq};
 use hobbychair_store::journal::{emptied, has_had_requests, has_one_name, take_space, Files, JournalError, Lock};
 use hobbychair_store::{BesideNodeError, Ends, Kept, NodeStart, Ready, Start, Store, ToldError};
@@ -27,20 +26,14 @@ use tokio::signal::unix::{signal, Signal, SignalKind};
 use tokio::task::JoinHandle;
 
 use crate::actions::{Actions, Owner, Pauses};
-use crate::admin::{Admin, Health};
-use crate::book;
 use crate::config::{Address, DeclaredQueue};
-use crate::delays;
 use crate::ending::End;
 use crate::http::{is_of_this_machine, listen, shared, test_free, Addresses, Door, Hosts, Places, Service};
-use crate::metrics::Metrics;
-use crate::move_tasks;
-use crate::moves;
-use crate::parts;
-use crate::peek::Peeks;
-use crate::purges;
-use crate::retention;
+use crate::operators::admin::{Admin, Health};
+use crate::operators::metrics::Metrics;
+use crate::operators::peek::Peeks;
 use crate::tls::Certificate;
+use crate::work::{book, delays, move_tasks, moves, parts, purges, retention};
 
 /// What a gateway is told at its start.
 #[derive(Clone, Debug)]
@@ -275,7 +268,7 @@ async fn tell(settings: &Settings, files: &Files, place: usize) -> Result<(Ready
     loop {
         let mut image = Image::new(settings.peek);
         let mut take = |chunk: &[u8]| image.feed(chunk);
-        match store::start_told(program, &file, settings.cq_timeout, Some(&mut take)).await {
+        match hobbychair_store::start_told(program, &file, settings.cq_timeout, Some(&mut take)).await {
             Ok(ready) => return Ok((ready, image)),
             Err(error) if error.is_of_program() && ended.is_none() => {
                 tracing::warn!("cq is started again. Before, {error}");
@@ -320,7 +313,7 @@ async fn take_journal(settings: &Settings, files: &Files) -> Result<Lock> {
 async fn make_files(settings: &Settings, files: &Files) -> Result<()> {
     for shard in settings.shards.all() {
         let file = files.fresh(shard.place());
-        let made = store::start_told(&settings.program, &file, settings.cq_timeout, None).await;
+        let made = hobbychair_store::start_told(&settings.program, &file, settings.cq_timeout, None).await;
         made.with_context(|| file.path.display().to_string())?;
     }
     Ok(())
@@ -401,7 +394,7 @@ async fn begin_beside_node(settings: &Settings, tables: (&Arc<Clock>, &Arc<Queue
         bytes += chunk.len();
         image.feed(chunk)
     };
-    let (mut cq, mut node) = store::take_up_from_node(clock, &far, &mut take).await?;
+    let (mut cq, mut node) = hobbychair_store::take_up_from_node(clock, &far, &mut take).await?;
     tracing::info!(bytes, "the store is told");
     let (last, number) = (image.last(), image.largest_number());
     let shard = settings.shards.all().next().context("there is no shard")?;
@@ -414,7 +407,7 @@ async fn begin_beside_node(settings: &Settings, tables: (&Arc<Clock>, &Arc<Queue
             made
         }
     });
-    let made = store::wait_beside_node(making, &mut cq, &mut node, (clock, &far)).await?;
+    let made = hobbychair_store::wait_beside_node(making, &mut cq, &mut node, (clock, &far)).await?;
     made.map_err(BesideNodeError::from)?;
     clock.go_on_from(last);
     tell_lead(clock);
@@ -458,7 +451,8 @@ async fn begin(settings: &Arc<Settings>) -> Result<RunningStore> {
         Some(node) => node.paused,
         None => Some((last, clock.now())),
     };
-    let (store, ends) = store::start(Start { program, patience, shards, cqs, node, queues, clock, kept, memory });
+    let (store, ends) =
+        hobbychair_store::start(Start { program, patience, shards, cqs, node, queues, clock, kept, memory });
     finish_all(&store, paused).await;
     if let Some(lock) = &_lock {
         note_requests(&store, lock);

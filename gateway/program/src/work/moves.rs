@@ -22,7 +22,7 @@ use hobbychair_tables::ask::{Ask, Cause, Changer, Fate, Handed, PartsCause};
 use hobbychair_tables::copies::CopyId;
 use hobbychair_tables::Queue;
 
-use crate::parts;
+use crate::work::parts;
 
 /// So long a message waits for its next deletion, where one failed after it was copied.
 const PAUSE: Duration = Duration::from_secs(1);

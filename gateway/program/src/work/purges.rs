@@ -9,7 +9,7 @@ use hobbychair_store::{Held, Store};
 use hobbychair_tables::ask::TableChange;
 use hobbychair_tables::Queue;
 
-use crate::retention::delete_next;
+use crate::work::retention::delete_next;
 
 /// How many deletes are asked for at once, how many messages are looked at while others wait, and how many the gateway
 /// hands to itself at once.

@@ -20,7 +20,7 @@ use tokio::runtime::Handle;
 use uuid::Uuid;
 
 use crate::actions::{show, Owner};
-use crate::parts::{self, Read};
+use crate::work::parts::{self, Read};
 
 /// The path, behind which a region, an account and a queue may stand.
 pub const PATH: &str = "/_aws/sqs/messages";

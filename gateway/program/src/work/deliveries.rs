@@ -8,8 +8,8 @@ use hobbychair_store::{spawn_wanted, Answer, Store};
 use hobbychair_tables::ask::{Ask, Fate, Handed, Outcome, Reach};
 use hobbychair_tables::Queue;
 
-use crate::delays::bring_up_to_date;
-use crate::moves::{give_back, move_to_target};
+use crate::work::delays::bring_up_to_date;
+use crate::work::moves::{give_back, move_to_target};
 
 /// The most messages to which the gateway sees itself in one request before it answers.
 const MOST_OWN: usize = 100;

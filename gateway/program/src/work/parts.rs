@@ -15,7 +15,7 @@ use hobbychair_tables::ask::{Ask, Handed, Outcome, PartsAsk, PartsCause};
 use hobbychair_tables::budget::Share;
 use hobbychair_tables::Queue;
 
-use crate::delays;
+use crate::work::delays;
 
 /// So many parts are removed at once.
 const REMOVED_AT_ONCE: usize = 32;

@@ -14,9 +14,9 @@ use hobbychair_tables::book::QueueEntry;
 use hobbychair_tables::Queue;
 
 use super::{Actions, Caller, Pauses, Performed, LONGEST_PAGE};
-use crate::book;
-use crate::delays::bring_up_to_date;
-use crate::purges::purge;
+use crate::work::book;
+use crate::work::delays::bring_up_to_date;
+use crate::work::purges::purge;
 
 /// So long a queue can't be purged again, in milliseconds (API Reference, PurgeQueue, `PurgeQueueInProgress`).
 const PURGE_PAUSE: u64 = 60_000;

@@ -92,7 +92,7 @@ mod tests {
     ];
 
     fn committed(name: &str) -> PathBuf {
-        Path::new(env!("CARGO_MANIFEST_DIR")).join("tests/tls").join(name)
+        Path::new(env!("CARGO_MANIFEST_DIR")).join("../tests/tls").join(name)
     }
 
     fn read(certificate: &str, key: &str) -> Result<Certificate> {

@@ -17,9 +17,9 @@ use hobbychair_tables::Queue;
 
 use super::messages::sequence_number;
 use super::{Actions, Caller, Owner, Performed};
-use crate::deliveries::{self, has_most_in_flight, Delivered};
-use crate::parts;
-use crate::polling::{self, Waiter};
+use crate::work::deliveries::{self, has_most_in_flight, Delivered};
+use crate::work::parts;
+use crate::work::polling::{self, Waiter};
 
 /// The `SenderId` of messages whose senders signed with no key that anybody looked at.
 const SENDER: &str = "AIDAHOBBYCHAIR0000000";

@@ -14,7 +14,7 @@ use hobbychair_tables::tasks::{MoveTask, Status};
 use hobbychair_tables::Queue;
 use uuid::Uuid;
 
-use crate::moves::move_each;
+use crate::work::moves::move_each;
 
 /// The keys that say where a task may move messages to; none where everybody may do everything.
 pub type Rights = Option<Arc<Keys>>;

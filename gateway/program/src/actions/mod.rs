@@ -26,8 +26,8 @@ use tokio::sync::{Mutex, Semaphore};
 use uuid::Uuid;
 
 use crate::ending::Ending;
-use crate::metrics::Metrics;
-use crate::move_tasks::Rights;
+use crate::operators::metrics::Metrics;
+use crate::work::move_tasks::Rights;
 pub use receiving::show;
 
 /// Who asks.

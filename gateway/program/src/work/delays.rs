@@ -12,7 +12,7 @@ use hobbychair_store::{Held, Store};
 use hobbychair_tables::ask::Handed;
 use hobbychair_tables::Queue;
 
-use crate::moves::{move_due, show_again};
+use crate::work::moves::{move_due, show_again};
 
 /// So many messages are moved, or handed out, at once.
 const AT_ONCE: usize = 10;

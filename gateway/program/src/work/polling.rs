@@ -12,8 +12,8 @@ use hobbychair_tables::Queue;
 use tokio::sync::oneshot;
 use tokio::time::Instant;
 
-use crate::deliveries::{ask_all, see_to, Seen};
 use crate::ending::Ending;
+use crate::work::deliveries::{ask_all, see_to, Seen};
 
 /// Refuses a receive of so many messages before it is handed any, where its answer may not find room.
 pub fn test_room(room: Room, queue: &Queue, size: u8) -> Result<(), SqsError> {

@@ -17,7 +17,7 @@ use sha2::Sha256;
 use uuid::{Builder, Uuid};
 
 use super::{Actions, Caller, Performed};
-use crate::move_tasks::run;
+use crate::work::move_tasks::run;
 
 /// What tells the digests of ids of tasks from all others by the same secret.
 const TASK: &[u8] = b"task";

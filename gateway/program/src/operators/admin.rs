@@ -18,8 +18,8 @@ use tokio::net::TcpListener;
 use tokio::sync::Semaphore;
 
 use crate::http::{to_be_written, Hosts, Progress, Watched, LONGEST_HEAD};
-use crate::metrics::{Counts, Metrics};
-use crate::peek::{self, Peeks};
+use crate::operators::metrics::{Counts, Metrics};
+use crate::operators::peek::{self, Peeks};
 
 /// So long a look waits for the programs that keep the queues.
 const LONGEST_LOOK: Duration = Duration::from_secs(2);
