@@ -26,7 +26,7 @@ use tokio::sync::{Mutex, Semaphore};
 use uuid::Uuid;
 
 use crate::ending::Ending;
-use crate::operators::metrics::Metrics;
+use crate::metrics::Metrics;
 use crate::work::move_tasks::Rights;
 pub use receiving::show;
 

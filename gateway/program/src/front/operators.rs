@@ -14,8 +14,8 @@ use prometheus::{
 use tokio::time::Instant;
 
 use super::contact::Contact;
+use crate::metrics::{Metrics, SECONDS};
 use crate::operators::admin::text;
-use crate::operators::metrics::{Metrics, SECONDS};
 
 /// The metrics of a front.
 pub struct Figures {

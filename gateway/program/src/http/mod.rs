@@ -33,7 +33,7 @@ use tokio::time::Instant;
 use uuid::Uuid;
 
 use crate::actions::{Actions, Caller};
-use crate::operators::metrics::Metrics;
+use crate::metrics::Metrics;
 use crate::repeats::{is_repeat, CallFields, CallResult, IdempotencyKey, Lookup, OpenCall, Repeats};
 pub use address::{is_of_this_machine, Addresses};
 pub use answers::{in_pieces, to_be_written};

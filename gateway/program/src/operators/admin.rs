@@ -18,7 +18,7 @@ use tokio::net::TcpListener;
 use tokio::sync::Semaphore;
 
 use crate::http::{to_be_written, Hosts, Progress, Watched, LONGEST_HEAD};
-use crate::operators::metrics::{Counts, Metrics};
+use crate::metrics::{Counts, Metrics};
 use crate::operators::peek::{self, Peeks};
 
 /// So long a look waits for the programs that keep the queues.
