@@ -13,7 +13,7 @@ use tokio::sync::watch;
 
 use hobbychair_tables::clock::Clock;
 use hobbychair_tables::presence::{Presence, Present};
-use hobbychair_tables::Queue;
+use hobbychair_tables::queue::Queue;
 
 /// So long an answer is kept.
 const KEPT: Duration = Duration::from_secs(60);

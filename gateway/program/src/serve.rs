@@ -17,8 +17,9 @@ use hobbychair_store::journal::{emptied, has_had_requests, has_one_name, take_sp
 use hobbychair_store::{BesideNodeError, Ends, Kept, NodeStart, Ready, Start, Store, ToldError};
 use hobbychair_tables::budget::Budget;
 use hobbychair_tables::clock::Clock;
+use hobbychair_tables::image::{Image, ImageError};
+use hobbychair_tables::queues::Queues;
 use hobbychair_tables::shards::Shards;
-use hobbychair_tables::{Image, ImageError, Queues};
 use hobbychair_tools::inspect::refuse_other_builds;
 use hobbychair_tools::misuse::Misuse;
 use tokio::net::TcpListener;

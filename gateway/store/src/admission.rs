@@ -9,7 +9,8 @@ use hobbychair_sqs::errors::SqsError;
 use hobbychair_tables::ask::{Ask, Cause, PartsAsk, PartsCause};
 use hobbychair_tables::book::Entry;
 use hobbychair_tables::limits::{Bound, GONE_NAME_BYTES, MESSAGE_BYTES, QUEUE_BYTES};
-use hobbychair_tables::{Queue, Queues};
+use hobbychair_tables::queue::Queue;
+use hobbychair_tables::queues::Queues;
 
 /// A queue that takes no more without its messages gets attributes and tags also where the bound is full.
 const ORDINARY: u64 = QUEUE_BYTES + 4_096;
@@ -129,8 +130,9 @@ mod tests {
     use hobbychair_sqs::envelope::Envelope;
     use hobbychair_sqs::handles::Origin;
     use hobbychair_sqs::texts::{DedupId, GroupId, QueueName};
-    use hobbychair_tables::ask::{Reach, StoreName};
+    use hobbychair_tables::ask::Reach;
     use hobbychair_tables::book::QueueEntry;
+    use hobbychair_tables::store_name::StoreName;
 
     use super::*;
 

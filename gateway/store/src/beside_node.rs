@@ -6,7 +6,7 @@ use std::sync::atomic::{AtomicU64, Ordering};
 use hobbychair_bytes::parts::{Cutter, Malformed, FRAME_LIMIT};
 use hobbychair_bytes::pipe::{FromGateway, FromNode};
 use hobbychair_tables::clock::Clock;
-use hobbychair_tables::ImageError;
+use hobbychair_tables::image::ImageError;
 use thiserror::Error;
 use tokio::io::{AsyncReadExt, AsyncWriteExt};
 use tokio::net::UnixStream;

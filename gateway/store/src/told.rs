@@ -7,7 +7,7 @@ use bytes::{Bytes, BytesMut};
 use hobbychair_bytes::commands::{Command, Response, NO_MEMORY};
 use hobbychair_bytes::parts::{Cutter, Malformed, FRAME_LIMIT};
 use hobbychair_bytes::values::BadFrame;
-use hobbychair_tables::ImageError;
+use hobbychair_tables::image::ImageError;
 use thiserror::Error;
 use tokio::io::{AsyncReadExt, AsyncWriteExt};
 

@@ -7,8 +7,8 @@ use hobbychair_bytes::moment::Moment;
 use hobbychair_sqs::handles::Mark;
 use tokio::sync::Notify;
 
-use super::Queue;
 use crate::clock::Clock;
+use crate::queue::Queue;
 
 /// When messages are due, and of which queues: the first of each.
 #[derive(Default)]

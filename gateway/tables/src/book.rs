@@ -11,8 +11,8 @@ use hobbychair_sqs::texts::{AttemptId, QueueName};
 use serde::{Deserialize, Serialize};
 use uuid::Uuid;
 
-use super::ask::StoreName;
 use crate::limits::{MESSAGE_BYTES, STORED_MESSAGE_BYTES};
+use crate::store_name::StoreName;
 use crate::tasks::MoveTask;
 
 /// What an entry says.

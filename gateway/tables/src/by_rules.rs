@@ -7,7 +7,7 @@ use hobbychair_bytes::moment::Moment;
 use hobbychair_bytes::values::written::{append, chunk};
 use hobbychair_bytes::values::{Delivery, KeptHandings, Part, QueuePart, Receipt, StoreAsk, StoreReply};
 
-use crate::ask::StoreName;
+use crate::store_name::StoreName;
 
 const WINDOW: u64 = 300_000;
 

@@ -15,12 +15,14 @@ use hobbychair_sqs::handles::Origin;
 use hobbychair_sqs::texts::{fingerprint_of, AttemptId, CallKey};
 use thiserror::Error;
 
-use super::ask::StoreName;
-use super::book::{form_said_by, size_of_text, AttemptEntry, AttemptRequest, Entry, FORM};
-use super::groups::Group;
-use super::shards::Shard;
-use super::{Queue, Queues};
+use crate::book::{form_said_by, size_of_text, AttemptEntry, AttemptRequest, Entry, FORM};
 use crate::copies::CopyId;
+use crate::groups::Group;
+use crate::queue::Queue;
+use crate::queues::Queues;
+use crate::shards::Shard;
+use crate::store_name::StoreName;
+use crate::stored::{AcceptedSend, Named, StoredHead, StoredMessage, StoredQueue};
 use crate::tasks::MoveTask;
 
 /// Why there are no tables of a store's bytes.
@@ -73,81 +75,11 @@ struct StoredName {
     queue: Option<StoredQueue>,
 }
 
-/// A queue as the store has it.
-#[derive(Default)]
-pub(super) struct StoredQueue {
-    /// Which one of its name it is.
-    pub(super) incarnation: u64,
-    /// How many sends were accepted.
-    pub(super) sent: u64,
-    pub(super) messages: Vec<StoredMessage>,
-    /// The entries of a book, by their sequence numbers.
-    entries: Vec<String>,
-    pub(super) accepted: Vec<AcceptedSend>,
-    /// What attempts were given, in the order in which books say it.
-    pub(super) attempts: Vec<AttemptEntry>,
-    /// What attempts were given by requests of which no book says that.
-    pub(super) untold: Vec<(AttemptId, Vec<Receipt>)>,
-}
-
-pub(super) struct StoredMessage {
-    pub(super) sequence: u64,
-    pub(super) group: Group,
-    pub(super) head: StoredHead,
-    pub(super) bytes: u64,
-    pub(super) handings: u64,
-    /// When it was handed out last, and up to when it is hidden, or 0.
-    pub(super) handed: Moment,
-    pub(super) until: Moment,
-    /// The id of its group and its envelope, where operators look at messages, or where an attempt may have been given it.
-    pub(super) text: Option<(Box<str>, Arc<str>)>,
-}
-
-/// What the head of an envelope says, in little room: in most of them there is nothing but the moment of the send.
-pub(super) enum StoredHead {
-    Plain(Moment),
-    Other(Box<EnvelopeHead>),
-}
-
-impl StoredHead {
-    fn of(head: EnvelopeHead) -> StoredHead {
-        match head {
-            EnvelopeHead { parts: None, bytes: None, id: None, of: None, sent, due: None, source: None } => {
-                StoredHead::Plain(sent)
-            }
-            other => StoredHead::Other(other.into()),
-        }
-    }
-
-    pub(super) fn into_head(self) -> EnvelopeHead {
-        match self {
-            StoredHead::Plain(sent) => EnvelopeHead { sent, ..EnvelopeHead::default() },
-            StoredHead::Other(head) => *head,
-        }
-    }
-}
-
-pub(super) struct AcceptedSend {
-    pub(super) call: Option<CallKey>,
-    pub(super) fingerprint: u64,
-    /// What it seems to be the copy of.
-    copy: Option<CopyId>,
-    pub(super) moment: Moment,
-    pub(super) sequence: u64,
-}
-
 impl StoredName {
     /// When it went; nothing where it is there.
     fn gone(&self) -> Option<Moment> {
         self.queue.is_none().then(|| self.removed.unwrap_or(0))
     }
-}
-
-/// What the messages of a queue name.
-#[derive(Default)]
-pub(super) struct Named {
-    pub(super) parts: Vec<u64>,
-    pub(super) origins: Vec<Origin>,
 }
 
 impl Image {

@@ -14,13 +14,15 @@ use proptest::prelude::*;
 use proptest::sample::{select, Index};
 use uuid::Uuid;
 
-use super::by_rules::StoreByRules;
-use crate::ask::{Ask, Cause, Changer, Handed, Outcome, PartsAsk, PartsCause, Reach, StoreName, TableChange};
+use crate::ask::{Ask, Cause, Changer, Handed, Outcome, PartsAsk, PartsCause, Reach, TableChange};
 use crate::book::{Entry, ProgramEntry, QueueEntry};
+use crate::by_rules::StoreByRules;
 use crate::copies::CopyId;
+use crate::queue::Queue;
+use crate::queues::Queues;
 use crate::shards::Shards;
+use crate::store_name::StoreName;
 use crate::tasks::{MoveTask, Status};
-use crate::{Queue, Queues};
 
 const NAMES: [&str; 4] = ["a", "b.fifo", "c", "d.fifo"];
 

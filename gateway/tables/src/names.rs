@@ -7,9 +7,12 @@ use std::sync::{Arc, Mutex, MutexGuard, PoisonError, Weak};
 
 use hobbychair_bytes::moment::Moment;
 
-use super::ask::StoreName;
-use super::state::WINDOW;
-use super::REMOVAL_PAUSE;
+use crate::state::WINDOW;
+use crate::store_name::StoreName;
+
+/// So long a name isn't free after its queue was removed, in milliseconds
+/// (API Reference, CreateQueue, `QueueDeletedRecently`).
+pub const REMOVAL_PAUSE: u64 = 60_000;
 
 /// So long after it went a name isn't used again, in milliseconds: the minute for which the store refuses it, and the five minutes
 /// for which ids count.

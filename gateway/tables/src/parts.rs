@@ -9,9 +9,9 @@ use hobbychair_bytes::values::StoreReply;
 use hobbychair_sqs::errors::SqsError;
 use tokio::sync::Notify;
 
-use super::ask::{Outcome, PartsAsk};
-use super::shards::Shards;
-use super::REMOVAL_PAUSE;
+use crate::ask::{Outcome, PartsAsk};
+use crate::names::REMOVAL_PAUSE;
+use crate::shards::Shards;
 
 /// A queue that has parts.
 #[derive(Debug, Default)]

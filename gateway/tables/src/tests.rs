@@ -13,10 +13,11 @@ use proptest::prelude::*;
 use proptest::sample::Index;
 use proptest::test_runner::TestCaseResult;
 
-use super::ask::{Ask, Cause, Changer, Outcome, Reach, StoreName, TableChange};
-use super::book::{Entry, QueueEntry};
-use super::State;
+use crate::ask::{Ask, Cause, Changer, Outcome, Reach, TableChange};
+use crate::book::{Entry, QueueEntry};
 use crate::jumps::Jumps;
+use crate::state::State;
+use crate::store_name::StoreName;
 
 #[derive(Clone, Debug)]
 struct Message {

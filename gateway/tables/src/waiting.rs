@@ -7,7 +7,7 @@ use hobbychair_sqs::errors::SqsError;
 use tokio::sync::oneshot;
 use tokio::time::Instant;
 
-use super::ask::{Ask, Handed};
+use crate::ask::{Ask, Handed};
 use crate::budget::Share;
 use crate::presence::Presence;
 

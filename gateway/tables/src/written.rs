@@ -3,7 +3,8 @@
 use hobbychair_bytes::digits::hex;
 use hobbychair_bytes::values::StoreAsk;
 
-use super::ask::{Ask, PartsAsk, StoreName};
+use crate::ask::{Ask, PartsAsk};
+use crate::store_name::StoreName;
 
 /// The group of all parts, and that of all entries of a book.
 const PARTS_GROUP: &str = "parts";

@@ -12,7 +12,7 @@ use hobbychair_sqs::wire::responses::{Failed, Sent, Succeeded};
 use hobbychair_sqs::wire::Response;
 use hobbychair_store::{Answer, Operation};
 use hobbychair_tables::ask::{Ask, Cause, Changer, Outcome};
-use hobbychair_tables::Queue;
+use hobbychair_tables::queue::Queue;
 use uuid::Uuid;
 
 use super::{Actions, Caller, Performed};

@@ -21,7 +21,7 @@ use hobbychair_sqs::wire::{Request, Response};
 use hobbychair_store::Store;
 use hobbychair_tables::budget::Share;
 use hobbychair_tables::presence::Presence;
-use hobbychair_tables::Queue;
+use hobbychair_tables::queue::Queue;
 use tokio::sync::{Mutex, Semaphore};
 use uuid::Uuid;
 

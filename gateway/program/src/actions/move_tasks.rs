@@ -11,8 +11,8 @@ use hobbychair_sqs::wire::requests::{StartMove, TaskHandle};
 use hobbychair_sqs::wire::responses::ListedTask;
 use hobbychair_sqs::wire::Response;
 use hobbychair_tables::ask::TableChange;
+use hobbychair_tables::queue::Queue;
 use hobbychair_tables::tasks::{MoveTask, Status};
-use hobbychair_tables::Queue;
 use sha2::Sha256;
 use uuid::{Builder, Uuid};
 

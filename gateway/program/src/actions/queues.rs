@@ -11,7 +11,7 @@ use hobbychair_sqs::wire::Response;
 use hobbychair_store::Answer;
 use hobbychair_tables::ask::{Outcome, TableChange};
 use hobbychair_tables::book::QueueEntry;
-use hobbychair_tables::Queue;
+use hobbychair_tables::queue::Queue;
 
 use super::{Actions, Caller, Pauses, Performed, LONGEST_PAGE};
 use crate::work::book;

@@ -12,8 +12,8 @@ use hobbychair_sqs::wire::requests::{Receive, Shown, SystemAttribute};
 use hobbychair_sqs::wire::responses::ReceivedMessage;
 use hobbychair_sqs::wire::Response;
 use hobbychair_tables::ask::{Ask, Changer, Handed, Reach};
+use hobbychair_tables::queue::Queue;
 use hobbychair_tables::waiting::{AnswerMemory, Room};
-use hobbychair_tables::Queue;
 
 use super::messages::sequence_number;
 use super::{Actions, Caller, Owner, Performed};

@@ -7,9 +7,10 @@ use std::sync::Arc;
 use std::time::Duration;
 
 use hobbychair_sqs::errors::SqsError;
-use hobbychair_tables::ask::{Ask, StoreName};
+use hobbychair_tables::ask::Ask;
 use hobbychair_tables::book::{Entry, ProgramEntry, Removal};
-use hobbychair_tables::Queue;
+use hobbychair_tables::queue::Queue;
+use hobbychair_tables::store_name::StoreName;
 
 use hobbychair_store::{Operation, Store};
 
@@ -214,7 +215,7 @@ mod tests {
     use hobbychair_sqs::texts::QueueName;
     use hobbychair_tables::book::QueueEntry;
     use hobbychair_tables::limits::MESSAGE_BYTES;
-    use hobbychair_tables::Queues;
+    use hobbychair_tables::queues::Queues;
 
     use super::*;
 

@@ -10,7 +10,7 @@ use std::sync::Arc;
 use hobbychair_sqs::errors::SqsError;
 use hobbychair_store::{Held, Store};
 use hobbychair_tables::ask::Handed;
-use hobbychair_tables::Queue;
+use hobbychair_tables::queue::Queue;
 
 use crate::work::moves::{move_due, show_again};
 

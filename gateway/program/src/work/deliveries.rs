@@ -6,7 +6,7 @@ use std::sync::Arc;
 use hobbychair_sqs::errors::SqsError;
 use hobbychair_store::{spawn_wanted, Answer, Store};
 use hobbychair_tables::ask::{Ask, Fate, Handed, Outcome, Reach};
-use hobbychair_tables::Queue;
+use hobbychair_tables::queue::Queue;
 
 use crate::work::delays::bring_up_to_date;
 use crate::work::moves::{give_back, move_to_target};

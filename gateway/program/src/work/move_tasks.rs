@@ -10,8 +10,8 @@ use hobbychair_sqs::errors::SqsError;
 use hobbychair_sqs::texts::QueueName;
 use hobbychair_store::Store;
 use hobbychair_tables::ask::{Handed, TableChange};
+use hobbychair_tables::queue::Queue;
 use hobbychair_tables::tasks::{MoveTask, Status};
-use hobbychair_tables::Queue;
 use uuid::Uuid;
 
 use crate::work::moves::move_each;

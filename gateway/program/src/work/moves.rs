@@ -20,7 +20,7 @@ use hobbychair_sqs::texts::{DedupId, GroupId, QueueKind};
 use hobbychair_store::{Copy, Held, Store};
 use hobbychair_tables::ask::{Ask, Cause, Changer, Fate, Handed, PartsCause};
 use hobbychair_tables::copies::CopyId;
-use hobbychair_tables::Queue;
+use hobbychair_tables::queue::Queue;
 
 use crate::work::parts;
 

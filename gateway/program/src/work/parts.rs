@@ -13,7 +13,7 @@ use hobbychair_sqs::errors::SqsError;
 use hobbychair_store::{spawn_wanted, Answer, Operation, Store};
 use hobbychair_tables::ask::{Ask, Handed, Outcome, PartsAsk, PartsCause};
 use hobbychair_tables::budget::Share;
-use hobbychair_tables::Queue;
+use hobbychair_tables::queue::Queue;
 
 use crate::work::delays;
 

@@ -7,8 +7,8 @@ use hobbychair_sqs::errors::SqsError;
 use hobbychair_store::Store;
 use hobbychair_tables::ask::{Ask, Outcome};
 use hobbychair_tables::presence::Presence;
+use hobbychair_tables::queue::Queue;
 use hobbychair_tables::waiting::{AnswerMemory, Poll, PollResult, Room};
-use hobbychair_tables::Queue;
 use tokio::sync::oneshot;
 use tokio::time::Instant;
 

@@ -7,7 +7,7 @@ use std::time::Duration;
 use hobbychair_sqs::errors::SqsError;
 use hobbychair_store::{Held, Store};
 use hobbychair_tables::ask::TableChange;
-use hobbychair_tables::Queue;
+use hobbychair_tables::queue::Queue;
 
 use crate::work::retention::delete_next;
 

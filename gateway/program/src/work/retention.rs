@@ -6,7 +6,7 @@ use std::time::Duration;
 use hobbychair_bytes::moment::Moment;
 use hobbychair_sqs::errors::SqsError;
 use hobbychair_tables::book::Entry;
-use hobbychair_tables::Queue;
+use hobbychair_tables::queue::Queue;
 
 use hobbychair_store::{Held, Operation, Store};
 

@@ -4,7 +4,7 @@ use std::sync::Arc;
 
 use hobbychair_bytes::moment::Moment;
 use hobbychair_tables::ask::Ask;
-use hobbychair_tables::Queue;
+use hobbychair_tables::queue::Queue;
 
 use super::room::adds;
 use crate::{Answer, AnswerSender, Operation};

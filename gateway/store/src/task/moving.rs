@@ -7,8 +7,9 @@ use std::sync::Arc;
 
 use hobbychair_bytes::moment::Moment;
 use hobbychair_sqs::errors::SqsError;
-use hobbychair_tables::ask::{Ask, StoreName};
-use hobbychair_tables::Queue;
+use hobbychair_tables::ask::Ask;
+use hobbychair_tables::queue::Queue;
+use hobbychair_tables::store_name::StoreName;
 
 use super::clients::CLIENTS;
 use super::entries::{Entry, Open, OpenAsk, StartOutcome};

@@ -6,10 +6,11 @@ use hobbychair_bytes::moment::Moment;
 use hobbychair_bytes::values::{append_query, append_request, Receipt, StoreAsk};
 use hobbychair_sqs::errors::SqsError;
 use hobbychair_sqs::texts::{DedupId, QueueKind};
-use hobbychair_tables::ask::{Ask, Cause, Outcome, StoreName, TableChange};
+use hobbychair_tables::ask::{Ask, Cause, Outcome, TableChange};
 use hobbychair_tables::book::{self, AttemptRequest};
 use hobbychair_tables::limits::{GONE_NAME_BYTES, STORED_NAME_BYTES};
-use hobbychair_tables::Queue;
+use hobbychair_tables::queue::Queue;
+use hobbychair_tables::store_name::StoreName;
 
 use super::clients::COUNTER;
 use super::entries::{Entry, Open, OpenAsk, Pending, StartOutcome};

@@ -28,9 +28,9 @@ use hobbychair_sqs::redrive::RedrivePolicy;
 use hobbychair_sqs::texts::{AttemptId, GroupId, QueueKind};
 use uuid::Uuid;
 
-use super::ask::{Ask, Cause, Changer, Fate, Handed, Outcome, Reach};
-use super::book::{AttemptEntry, AttemptRequest, Entry, QueueEntry};
-use super::groups::{Group, Groups};
+use crate::ask::{Ask, Cause, Changer, Fate, Handed, Outcome, Reach};
+use crate::book::{AttemptEntry, AttemptRequest, Entry, QueueEntry};
+use crate::groups::{Group, Groups};
 use crate::jumps::Jumps;
 use crate::limits::{ID_BYTES, MESSAGE_BYTES, QUEUE_BYTES, STORED_ID_BYTES, STORED_MESSAGE_BYTES, STORED_QUEUE_BYTES};
 use crate::tasks::{MoveTask, Status};

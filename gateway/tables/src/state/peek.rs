@@ -11,7 +11,6 @@ use super::delayed::Place;
 use super::message::Message;
 use super::{Applied, State};
 use crate::ask::{Ask, Outcome};
-use crate::Queue;
 
 /// Where a look goes on: behind a message by its sequence number, or behind a delayed one of a standard queue, by when
 /// that is due and its number in the queue where it stands.
@@ -82,17 +81,6 @@ pub struct Chunk {
     pub next: Option<Cursor>,
 }
 
-impl Queue {
-    /// The next messages behind a cursor, at most `most`, and the queue where they stand. Takes time in proportion to
-    /// their number.
-    pub fn peek(self: &Arc<Queue>, after: Cursor, most: usize, now: Moment) -> (Arc<Queue>, Chunk) {
-        let beside = self.delays().filter(|_| matches!(after, Cursor::Delayed(..)));
-        let place = beside.unwrap_or_else(|| self.clone());
-        let chunk = place.state().peek(after, most, now);
-        (place, chunk)
-    }
-}
-
 impl State {
     /// Keeps what was sent, so that it can be looked at.
     pub(crate) fn keep_copy(&mut self, ask: &Ask, applied: &Applied) {
@@ -110,7 +98,7 @@ impl State {
         self.envelope_bytes += bytes;
     }
 
-    pub(super) fn peek(&self, after: Cursor, most: usize, now: Moment) -> Chunk {
+    pub(crate) fn peek(&self, after: Cursor, most: usize, now: Moment) -> Chunk {
         match after {
             Cursor::Stored(sequence) => self.peek_at_stored(sequence, most, now),
             Cursor::Delayed(due, sequence) => self.peek_at_delayed((due, sequence), most, now),

@@ -17,7 +17,7 @@ use super::recent::RecentSend;
 use super::{State, WINDOW};
 use crate::ask::Handed;
 use crate::book::AttemptEntry;
-use crate::image::{AcceptedSend, Named, StoredMessage, StoredQueue};
+use crate::stored::{AcceptedSend, Named, StoredMessage, StoredQueue};
 #[cfg(test)]
 use crate::tasks::MoveTask;
 

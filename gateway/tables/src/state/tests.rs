@@ -8,9 +8,11 @@ use hobbychair_sqs::handles::Handle;
 use hobbychair_sqs::texts::{DedupId, QueueName};
 
 use super::*;
-use crate::ask::{StoreName, TableChange};
+use crate::ask::TableChange;
 use crate::book::{Entry, Purging};
-use crate::{Queue, Queues};
+use crate::queue::Queue;
+use crate::queues::Queues;
+use crate::store_name::StoreName;
 
 fn state() -> State {
     state_of("q.fifo")

@@ -6,9 +6,9 @@ use std::process::{Command, Stdio};
 
 use anyhow::{Context, Result};
 use hobbychair_bytes::values::{Part, StoreReader};
-use hobbychair_tables::ask::StoreName;
 use hobbychair_tables::book::{form_said_by, Entry, ProgramEntry, FORM};
-use hobbychair_tables::ImageError;
+use hobbychair_tables::image::ImageError;
+use hobbychair_tables::store_name::StoreName;
 use serde::Deserialize;
 
 use hobbychair_store::journal::JournalError;

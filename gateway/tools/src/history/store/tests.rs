@@ -2,8 +2,8 @@
 
 use hobbychair_bytes::seeded;
 use hobbychair_bytes::values::Receipt;
-use hobbychair_tables::ask::StoreName;
 use hobbychair_tables::by_rules::StoreByRules;
+use hobbychair_tables::store_name::StoreName;
 use proptest::prelude::*;
 use serde_json::{json, Value};
 
