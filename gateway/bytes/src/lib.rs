@@ -16,7 +16,7 @@ pub mod parts;
 pub mod pipe;
 pub mod processes;
 #[cfg(any(test, feature = "testing"))]
-pub mod room;
-#[cfg(any(test, feature = "testing"))]
 pub mod seeded;
+#[cfg(any(test, feature = "testing"))]
+pub mod temporary;
 pub mod values;

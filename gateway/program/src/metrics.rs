@@ -8,7 +8,7 @@ use prometheus::{
     TextEncoder,
 };
 
-use hobbychair_store::Figures;
+use hobbychair_store::figures::Figures;
 
 /// Bounds of the histogram of latencies, in seconds. Long polls take up to 20.
 pub const SECONDS: [f64; 14] = [0.0005, 0.001, 0.0025, 0.005, 0.01, 0.025, 0.05, 0.1, 0.25, 0.5, 1.0, 5.0, 10.0, 20.0];

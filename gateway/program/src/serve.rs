@@ -12,9 +12,12 @@ use anyhow::{anyhow, bail, Context, Result};
 use hobbychair_bytes::moment::Moment;
 use hobbychair_cluster::identity::{Identity, IdentityFiles, Role};
 use hobbychair_sqs::access::Keys;
+use hobbychair_store::beside_node::BesideNodeError;
 use hobbychair_store::cq::{test_built, test_version, Cq};
 use hobbychair_store::journal::{emptied, has_had_requests, has_one_name, take_space, Files, JournalError, Lock};
-use hobbychair_store::{BesideNodeError, Ends, Kept, NodeStart, Ready, Start, Store, ToldError};
+use hobbychair_store::store::Store;
+use hobbychair_store::task::{Ends, Kept, NodeStart, Start};
+use hobbychair_store::told::{Ready, ToldError};
 use hobbychair_tables::budget::Budget;
 use hobbychair_tables::clock::Clock;
 use hobbychair_tables::image::{Image, ImageError};
@@ -269,7 +272,7 @@ async fn tell(settings: &Settings, files: &Files, place: usize) -> Result<(Ready
     loop {
         let mut image = Image::new(settings.peek);
         let mut take = |chunk: &[u8]| image.feed(chunk);
-        match hobbychair_store::start_told(program, &file, settings.cq_timeout, Some(&mut take)).await {
+        match hobbychair_store::told::start(program, &file, settings.cq_timeout, Some(&mut take)).await {
             Ok(ready) => return Ok((ready, image)),
             Err(error) if error.is_of_program() && ended.is_none() => {
                 tracing::warn!("cq is started again. Before, {error}");
@@ -314,7 +317,7 @@ async fn take_journal(settings: &Settings, files: &Files) -> Result<Lock> {
 async fn make_files(settings: &Settings, files: &Files) -> Result<()> {
     for shard in settings.shards.all() {
         let file = files.fresh(shard.place());
-        let made = hobbychair_store::start_told(&settings.program, &file, settings.cq_timeout, None).await;
+        let made = hobbychair_store::told::start(&settings.program, &file, settings.cq_timeout, None).await;
         made.with_context(|| file.path.display().to_string())?;
     }
     Ok(())
@@ -395,7 +398,7 @@ async fn begin_beside_node(settings: &Settings, tables: (&Arc<Clock>, &Arc<Queue
         bytes += chunk.len();
         image.feed(chunk)
     };
-    let (mut cq, mut node) = hobbychair_store::take_up_from_node(clock, &far, &mut take).await?;
+    let (mut cq, mut node) = hobbychair_store::beside_node::take_up(clock, &far, &mut take).await?;
     tracing::info!(bytes, "the store is told");
     let (last, number) = (image.last(), image.largest_number());
     let shard = settings.shards.all().next().context("there is no shard")?;
@@ -408,7 +411,7 @@ async fn begin_beside_node(settings: &Settings, tables: (&Arc<Clock>, &Arc<Queue
             made
         }
     });
-    let made = hobbychair_store::wait_beside_node(making, &mut cq, &mut node, (clock, &far)).await?;
+    let made = hobbychair_store::beside_node::wait_for(making, &mut cq, &mut node, (clock, &far)).await?;
     made.map_err(BesideNodeError::from)?;
     clock.go_on_from(last);
     tell_lead(clock);
@@ -453,7 +456,7 @@ async fn begin(settings: &Arc<Settings>) -> Result<RunningStore> {
         None => Some((last, clock.now())),
     };
     let (store, ends) =
-        hobbychair_store::start(Start { program, patience, shards, cqs, node, queues, clock, kept, memory });
+        hobbychair_store::task::start(Start { program, patience, shards, cqs, node, queues, clock, kept, memory });
     finish_all(&store, paused).await;
     if let Some(lock) = &_lock {
         note_requests(&store, lock);

@@ -12,9 +12,9 @@ use tokio::io::{AsyncReadExt, AsyncWriteExt};
 use tokio::net::UnixStream;
 use tokio::task::JoinHandle;
 
-use super::task::NodeStart;
-use super::told::Take;
 use crate::cq::{Cq, CqError};
+use crate::task::NodeStart;
+use crate::told::Take;
 
 const PIECE: usize = 256 * 1024;
 

@@ -2,8 +2,6 @@
 
 use std::sync::atomic::{AtomicBool, AtomicU64, AtomicUsize, Ordering};
 
-use super::Store;
-
 /// Figures of a store at one moment. How many messages a queue has is told by `Store::count`.
 #[derive(Clone, Copy, Debug, PartialEq, Eq)]
 pub struct Figures {
@@ -26,11 +24,11 @@ pub struct Figures {
 
 /// What the tasks count.
 #[derive(Default)]
-pub(super) struct Counters {
-    restarts: AtomicU64,
-    lacked_room: AtomicU64,
-    open: AtomicUsize,
-    serves: AtomicBool,
+pub(crate) struct Counters {
+    pub(crate) restarts: AtomicU64,
+    pub(crate) lacked_room: AtomicU64,
+    pub(crate) open: AtomicUsize,
+    pub(crate) serves: AtomicBool,
 }
 
 impl Counters {
@@ -51,28 +49,6 @@ impl Counters {
     pub fn count_open(&self, before: usize, now: usize) {
         // The difference may be below zero: it wraps, and the sum wraps back.
         self.open.fetch_add(now.wrapping_sub(before), Ordering::Relaxed);
-    }
-}
-
-impl Store {
-    /// Clients are served from now on. A node that carries what is asked is told so.
-    pub fn says_that_it_serves(&self) {
-        self.counters.serves.store(true, Ordering::Relaxed);
-    }
-
-    /// The figures of this moment. Nothing waits for them.
-    pub fn figures(&self) -> Figures {
-        self.admission.look_at_ages(self.clock.now());
-        Figures {
-            queues: self.queues.count(),
-            memory_bytes: self.admission.bytes_in_use(),
-            memory_bound: self.admission.memory.limit(),
-            is_disk_short: self.admission.is_disk_short(),
-            lacked_room: self.counters.lacked_room.load(Ordering::Relaxed),
-            restarts: self.counters.restarts.load(Ordering::Relaxed),
-            clock_lead: self.clock.lead().as_secs(),
-            open: self.counters.open.load(Ordering::Relaxed),
-        }
     }
 }
 

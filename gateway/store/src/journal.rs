@@ -479,7 +479,7 @@ fn network(kind: u64) -> Option<&'static str> {
 mod tests {
     use super::*;
 
-    use hobbychair_bytes::room::Room;
+    use hobbychair_bytes::temporary::Room;
 
     fn names_in(room: &Room) -> Vec<String> {
         let entries = std::fs::read_dir(&room.0).unwrap();

@@ -5,7 +5,7 @@ use std::path::PathBuf;
 
 use super::frames::record_at;
 use super::*;
-use crate::room::Room;
+use crate::temporary::Room;
 
 const PAGE: &str = include_str!(concat!(env!("CARGO_MANIFEST_DIR"), "/../../docs/JOURNAL.md"));
 

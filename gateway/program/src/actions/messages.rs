@@ -10,7 +10,7 @@ use hobbychair_sqs::texts::{Body, DedupId, GroupId, QueueKind, QueueName};
 use hobbychair_sqs::wire::requests::{Batch, NewMessage, Sending, VisibilityChange};
 use hobbychair_sqs::wire::responses::{Failed, Sent, Succeeded};
 use hobbychair_sqs::wire::Response;
-use hobbychair_store::{Answer, Operation};
+use hobbychair_store::jobs::{Answer, Operation};
 use hobbychair_tables::ask::{Ask, Cause, Changer, Outcome};
 use hobbychair_tables::queue::Queue;
 use uuid::Uuid;

@@ -18,7 +18,7 @@ use hobbychair_sqs::action::Action;
 use hobbychair_sqs::errors::SqsError;
 use hobbychair_sqs::texts::QueueName;
 use hobbychair_sqs::wire::{Request, Response};
-use hobbychair_store::Store;
+use hobbychair_store::store::Store;
 use hobbychair_tables::budget::Share;
 use hobbychair_tables::presence::Presence;
 use hobbychair_tables::queue::Queue;

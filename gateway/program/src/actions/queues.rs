@@ -8,7 +8,7 @@ use hobbychair_sqs::texts::QueueName;
 use hobbychair_sqs::wire::requests::{test_count_of_tags, Tags};
 use hobbychair_sqs::wire::tokens::token_behind;
 use hobbychair_sqs::wire::Response;
-use hobbychair_store::Answer;
+use hobbychair_store::jobs::Answer;
 use hobbychair_tables::ask::{Outcome, TableChange};
 use hobbychair_tables::book::QueueEntry;
 use hobbychair_tables::queue::Queue;

@@ -22,7 +22,7 @@ use hobbychair_sqs::action::Action;
 use hobbychair_sqs::errors::SqsError;
 use hobbychair_sqs::texts::QueueName;
 use hobbychair_sqs::wire::{self, Protocol, Reply};
-use hobbychair_store::wanted_until;
+use hobbychair_store::store::wanted_until;
 use hobbychair_tables::budget::{Budget, Share};
 use hobbychair_tables::presence::Presence;
 use hyper::header::{HeaderMap, HeaderName, HeaderValue, AUTHORIZATION, CONNECTION, CONTENT_TYPE};

@@ -7,7 +7,7 @@ use std::sync::{Arc, OnceLock};
 use std::time::Duration;
 
 use bytes::Bytes;
-use hobbychair_store::Store;
+use hobbychair_store::store::Store;
 use hobbychair_tables::ask::Outcome;
 use hobbychair_tables::budget::Share;
 use hyper::header::{HeaderMap, HeaderValue, CONTENT_TYPE};

@@ -9,7 +9,7 @@ use hobbychair_sqs::texts::QueueName;
 use hobbychair_sqs::wire::requests::Shown;
 use hobbychair_sqs::wire::responses::ReceivedMessage;
 use hobbychair_sqs::wire::{self, Protocol, Reply};
-use hobbychair_store::Store;
+use hobbychair_store::store::Store;
 use hobbychair_tables::ask::Handed;
 use hobbychair_tables::budget::{Budget, Share};
 use hobbychair_tables::queue::Queue;

@@ -12,7 +12,8 @@ use hobbychair_tables::book::{Entry, ProgramEntry, Removal};
 use hobbychair_tables::queue::Queue;
 use hobbychair_tables::store_name::StoreName;
 
-use hobbychair_store::{Operation, Store};
+use hobbychair_store::jobs::Operation;
+use hobbychair_store::store::Store;
 
 /// So often books are looked at.
 const PAUSE: Duration = Duration::from_millis(250);

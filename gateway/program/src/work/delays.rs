@@ -8,7 +8,7 @@ use std::collections::HashMap;
 use std::sync::Arc;
 
 use hobbychair_sqs::errors::SqsError;
-use hobbychair_store::{Held, Store};
+use hobbychair_store::store::{Held, Store};
 use hobbychair_tables::ask::Handed;
 use hobbychair_tables::queue::Queue;
 

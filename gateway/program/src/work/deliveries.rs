@@ -4,7 +4,8 @@ use std::collections::HashSet;
 use std::sync::Arc;
 
 use hobbychair_sqs::errors::SqsError;
-use hobbychair_store::{spawn_wanted, Answer, Store};
+use hobbychair_store::jobs::Answer;
+use hobbychair_store::store::{spawn_wanted, Store};
 use hobbychair_tables::ask::{Ask, Fate, Handed, Outcome, Reach};
 use hobbychair_tables::queue::Queue;
 

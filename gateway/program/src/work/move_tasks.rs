@@ -8,7 +8,7 @@ use hobbychair_sqs::access::Keys;
 use hobbychair_sqs::action::Action;
 use hobbychair_sqs::errors::SqsError;
 use hobbychair_sqs::texts::QueueName;
-use hobbychair_store::Store;
+use hobbychair_store::store::Store;
 use hobbychair_tables::ask::{Handed, TableChange};
 use hobbychair_tables::queue::Queue;
 use hobbychair_tables::tasks::{MoveTask, Status};

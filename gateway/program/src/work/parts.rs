@@ -10,7 +10,8 @@ use std::time::Duration;
 
 use hobbychair_sqs::envelope::{parts_of, EnvelopeHead};
 use hobbychair_sqs::errors::SqsError;
-use hobbychair_store::{spawn_wanted, Answer, Operation, Store};
+use hobbychair_store::jobs::{Answer, Operation};
+use hobbychair_store::store::{spawn_wanted, Store};
 use hobbychair_tables::ask::{Ask, Handed, Outcome, PartsAsk, PartsCause};
 use hobbychair_tables::budget::Share;
 use hobbychair_tables::queue::Queue;

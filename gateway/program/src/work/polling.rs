@@ -4,7 +4,7 @@ use std::sync::Arc;
 use std::time::Duration;
 
 use hobbychair_sqs::errors::SqsError;
-use hobbychair_store::Store;
+use hobbychair_store::store::Store;
 use hobbychair_tables::ask::{Ask, Outcome};
 use hobbychair_tables::presence::Presence;
 use hobbychair_tables::queue::Queue;

@@ -5,7 +5,7 @@ use std::sync::Arc;
 use std::time::Duration;
 
 use hobbychair_sqs::errors::SqsError;
-use hobbychair_store::{Held, Store};
+use hobbychair_store::store::{Held, Store};
 use hobbychair_tables::ask::TableChange;
 use hobbychair_tables::queue::Queue;
 

@@ -8,7 +8,8 @@ use hobbychair_sqs::errors::SqsError;
 use hobbychair_tables::book::Entry;
 use hobbychair_tables::queue::Queue;
 
-use hobbychair_store::{Held, Operation, Store};
+use hobbychair_store::jobs::Operation;
+use hobbychair_store::store::{Held, Store};
 
 /// Of the time between the last record of a journal and the start that finds it, so much makes messages older, in
 /// milliseconds.

@@ -8,7 +8,7 @@ use tokio::time::Instant;
 use super::chain::Chain;
 use super::entries::{Entry, Open, OpenAsk};
 use super::{Ended, Task};
-use crate::{Answer, AnswerSender};
+use crate::jobs::{Answer, AnswerSender};
 
 impl Task {
     pub(super) fn read_answers(&mut self) -> Result<(), Ended> {

@@ -6,8 +6,8 @@ use hobbychair_bytes::moment::Moment;
 use hobbychair_tables::ask::Ask;
 use hobbychair_tables::queue::Queue;
 
-use super::room::adds;
-use crate::{Answer, AnswerSender, Operation};
+use crate::jobs::{Answer, AnswerSender, Operation};
+use crate::room::adds;
 
 /// Something whose answer is due. Answers are given in the order of the requests.
 pub(super) struct Open {

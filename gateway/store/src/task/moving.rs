@@ -15,7 +15,7 @@ use super::clients::CLIENTS;
 use super::entries::{Entry, Open, OpenAsk, StartOutcome};
 use super::starting::stamped;
 use super::Task;
-use crate::{AnswerSender, Copy, Operation};
+use crate::jobs::{AnswerSender, Copy, Operation};
 
 /// Copies that aren't all answered yet.
 pub(super) struct Moving {

@@ -14,9 +14,9 @@ use hobbychair_tables::store_name::StoreName;
 
 use super::clients::COUNTER;
 use super::entries::{Entry, Open, OpenAsk, Pending, StartOutcome};
-use super::room::{adds, refusal_for_room};
 use super::{chain, Ended, Task, PIECE};
-use crate::Operation;
+use crate::jobs::Operation;
+use crate::room::{adds, refusal_for_room};
 
 /// No queue of the store has this name: theirs have numbers. A receive of it does nothing but move the store's moment on.
 const NO_QUEUE: &str = "none.fifo";

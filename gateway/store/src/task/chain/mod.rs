@@ -19,8 +19,8 @@ use tokio::time::Instant;
 
 use super::clients::COUNTER;
 use super::entries::{Entry, Open};
-use super::room::adds;
 use super::{Ended, Task};
+use crate::room::adds;
 
 /// Behind a refusal all is asked again after this time: there was no memory.
 const PAUSE: Duration = Duration::from_millis(50);

@@ -19,8 +19,9 @@ use tokio::net::UnixStream;
 
 use super::*;
 use crate::cq::Cq;
+use crate::jobs::Answer as Answered;
+use crate::store::{wanted_until, Store};
 use crate::task::{start, Kept, NodeStart, Start};
-use crate::{wanted_until, Answer as Answered, Store};
 
 /// The other end of the gateway's pipe.
 struct Node {

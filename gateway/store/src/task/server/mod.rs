@@ -22,8 +22,8 @@ use tokio::time::Instant;
 
 use super::chain::{is_answer_to, take_due};
 use super::entries::{Entry, Open};
-use super::room::{adds, refusal_for_room};
 use super::{Ended, Task};
+use crate::room::{adds, refusal_for_room};
 
 /// After this time something is tried again for which there was no memory.
 const PAUSE: Duration = Duration::from_millis(50);

@@ -21,9 +21,10 @@ use tokio::task::JoinHandle;
 
 use super::*;
 use crate::cq::Cq;
+use crate::jobs::{Answer as Answered, Copy};
+use crate::store::Store;
 use crate::task::clients::COUNTER;
 use crate::task::{start, Ends, Kept, Start};
-use crate::{Answer as Answered, Copy, Store};
 
 /// The other end of the gateway's pipe.
 struct Program {

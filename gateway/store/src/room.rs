@@ -1,11 +1,10 @@
 //! What is said of a request for which a program's journal has no room.
 
 use hobbychair_sqs::errors::SqsError;
-
 use hobbychair_tables::ask::{Ask, Cause, Changer, PartsAsk, PartsCause};
 
 /// What is told of a request for which a program's journal has no room. `adds`: it adds something that stays.
-pub(super) fn refusal_for_room(adds: bool) -> SqsError {
+pub(crate) fn refusal_for_room(adds: bool) -> SqsError {
     let message = "The journal is full.".into();
     if adds {
         SqsError::OverLimit(message)
@@ -25,7 +24,7 @@ pub(crate) fn is_for_client(ask: &Ask) -> bool {
 }
 
 /// Whether it adds something that stays, and that a client asked for.
-pub(super) fn adds(ask: &Ask) -> bool {
+pub(crate) fn adds(ask: &Ask) -> bool {
     match ask {
         Ask::Create { store, bytes, .. } => *bytes > 0 && store.main().is_none(),
         Ask::Send { cause, .. } => *cause == Cause::Client,
