@@ -107,6 +107,7 @@ pub struct Standing {
 }
 
 impl Command {
+    /// The bytes, with their length.
     pub fn frame(&self) -> Vec<u8> {
         match self {
             Command::Arrive { stream, clock, request } => {
@@ -158,6 +159,7 @@ impl Response {
         }
     }
 
+    /// The bytes, with their length.
     pub fn frame(&self) -> Vec<u8> {
         match self {
             Response::Put { to, place, piece } => frame(0, |out| {

@@ -96,6 +96,7 @@ pub struct FileFrames {
 }
 
 impl FileFrames {
+    /// Opens a file, to read its frames from the first one on.
     pub fn open(path: &Path) -> io::Result<FileFrames> {
         let file = File::open(path)?;
         let size = file.metadata()?.len();

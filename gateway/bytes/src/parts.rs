@@ -46,21 +46,25 @@ impl Reader {
         Ok(())
     }
 
+    /// The next byte. Where none is left, that is refused; so it is of all parts below.
     pub fn byte(&mut self) -> Result<u8, Malformed> {
         self.needs(1)?;
         Ok(self.0.get_u8())
     }
 
+    /// A number of four bytes, the lowest first.
     pub fn number32(&mut self) -> Result<u32, Malformed> {
         self.needs(4)?;
         Ok(self.0.get_u32_le())
     }
 
+    /// A number of eight bytes, the lowest first.
     pub fn number64(&mut self) -> Result<u64, Malformed> {
         self.needs(8)?;
         Ok(self.0.get_u64_le())
     }
 
+    /// A byte that is 0 or 1; any other is refused.
     pub fn flag(&mut self) -> Result<bool, Malformed> {
         match self.byte()? {
             0 => Ok(false),
@@ -69,16 +73,19 @@ impl Reader {
         }
     }
 
+    /// Bytes behind their number.
     pub fn run(&mut self) -> Result<Bytes, Malformed> {
         let length = self.number32()? as usize;
         self.needs(length)?;
         Ok(self.0.split_to(length))
     }
 
+    /// The same, refused where they aren't UTF-8.
     pub fn text(&mut self) -> Result<String, Malformed> {
         String::from_utf8(self.run()?.to_vec()).map_err(|_| Malformed("a text isn't UTF-8"))
     }
 
+    /// The number of a server, which isn't 0.
     pub fn server(&mut self) -> Result<u32, Malformed> {
         match self.number32()? {
             0 => Err(Malformed("no server has the number 0")),
@@ -98,6 +105,7 @@ impl Reader {
         self.0
     }
 
+    /// Whether nothing is left.
     pub fn is_empty(&self) -> bool {
         !self.0.has_remaining()
     }
@@ -203,6 +211,7 @@ pub struct Frames<R> {
 }
 
 impl<R: AsyncRead + Unpin> Frames<R> {
+    /// Reads frames of at most so many bytes behind their length. Longer ones are `InvalidData`.
     pub fn new(from: R, limit: usize) -> Frames<R> {
         Frames { from, cutter: Cutter::default(), limit }
     }

@@ -173,10 +173,12 @@ impl GivenAttributes {
         self
     }
 
+    /// Their names and values.
     pub fn iter(&self) -> impl Iterator<Item = (&str, &str)> {
         self.0.iter().map(|(name, value)| (name.as_str(), value.as_str()))
     }
 
+    /// Whether none was given.
     pub fn is_empty(&self) -> bool {
         self.0.is_empty()
     }
@@ -349,14 +351,17 @@ impl QueueAttributes {
         self.text(REDRIVE_POLICY).and_then(|text| RedrivePolicy::parse(text).ok())
     }
 
+    /// Whether a send without a deduplication id gets that of its body.
     pub fn dedups_by_content(&self) -> bool {
         self.often.dedups_by_content
     }
 
+    /// Whether a deduplication id counts within its group alone.
     pub fn dedups_by_group(&self) -> bool {
         self.often.dedups_by_group
     }
 
+    /// The names and values of all that are set.
     pub fn iter(&self) -> impl Iterator<Item = (&str, &str)> {
         self.texts.iter().map(|(name, value)| (name.as_str(), value.as_str()))
     }
@@ -393,6 +398,7 @@ impl WantedAttributes {
         Ok(WantedAttributes(names.iter().cloned().collect()))
     }
 
+    /// Whether this one is asked for.
     pub fn has(&self, name: &str) -> bool {
         self.0.contains(name)
     }

@@ -118,6 +118,7 @@ impl AttributeValue {
         }
     }
 
+    /// Whether it is bytes, and no text.
     pub fn is_binary(&self) -> bool {
         matches!(self.content, Content::Binary(_))
     }
@@ -269,10 +270,12 @@ impl Envelope {
         }
     }
 
+    /// All of it.
     pub fn text(&self) -> &str {
         &self.0
     }
 
+    /// All of it, without a copy.
     pub fn into_text(self) -> String {
         self.0
     }
@@ -309,6 +312,7 @@ impl EnvelopeBody {
         Some((metadata, EnvelopeBody { envelope: whole.clone(), start }))
     }
 
+    /// The text of the body.
     pub fn as_str(&self) -> &str {
         &self.envelope[self.start..]
     }

@@ -38,6 +38,7 @@ pub struct Handle {
 pub struct HandleKey([u8; 16]);
 
 impl HandleKey {
+    /// The key that follows from a secret.
     pub fn of(secret: Uuid) -> HandleKey {
         HandleKey(secret.into_bytes())
     }

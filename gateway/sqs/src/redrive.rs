@@ -7,7 +7,9 @@ use serde_json::{Map, Value};
 use crate::errors::SqsError;
 use crate::texts::QueueName;
 
+/// The attribute of a queue that says where its dead letters go.
 pub const REDRIVE_POLICY: &str = "RedrivePolicy";
+/// The attribute of a queue that says of which queues dead letters may come.
 pub const REDRIVE_ALLOW_POLICY: &str = "RedriveAllowPolicy";
 
 /// How often a message is handed out where the policy doesn't say it
@@ -65,6 +67,7 @@ fn object(text: &str, keys: &[&str]) -> Result<Map<String, Value>, String> {
 }
 
 impl RedrivePolicy {
+    /// Reads the JSON of the attribute. What breaks its rules is `InvalidAttributeValue`.
     pub fn parse(text: &str) -> Result<RedrivePolicy, SqsError> {
         RedrivePolicy::read(text).map_err(|reason| refusal(REDRIVE_POLICY, text, &reason))
     }
@@ -88,6 +91,7 @@ impl RedrivePolicy {
 }
 
 impl RedriveAllowPolicy {
+    /// Reads the JSON of the attribute. What breaks its rules is `InvalidAttributeValue`.
     pub fn parse(text: &str) -> Result<RedriveAllowPolicy, SqsError> {
         RedriveAllowPolicy::read(text).map_err(|reason| refusal(REDRIVE_ALLOW_POLICY, text, &reason))
     }

@@ -36,6 +36,7 @@ impl QueueName {
         is_name.then(|| QueueName(text.into()))
     }
 
+    /// Of which kind the queue is: its name says that.
     pub fn kind(&self) -> QueueKind {
         if self.0.ends_with(FIFO_SUFFIX) {
             QueueKind::Fifo
@@ -70,6 +71,7 @@ impl QueueName {
         SqsError::InvalidParameterValue(rule.into())
     }
 
+    /// The text.
     pub fn as_str(&self) -> &str {
         &self.0
     }
@@ -101,6 +103,7 @@ fn only_printable(parameter: &str) -> SqsError {
 pub struct GroupId(String);
 
 impl GroupId {
+    /// The id in `text`, or `InvalidParameterValue`.
     pub fn parse(text: &str) -> Result<GroupId, SqsError> {
         is_short_and_printable(text).then(|| GroupId(text.into())).ok_or_else(|| only_printable("MessageGroupId"))
     }
@@ -110,6 +113,7 @@ impl GroupId {
         GroupId(id.as_simple().to_string())
     }
 
+    /// The text.
     pub fn as_str(&self) -> &str {
         &self.0
     }
@@ -122,6 +126,7 @@ impl GroupId {
 pub struct DedupId(String);
 
 impl DedupId {
+    /// The id in `text`, or `InvalidParameterValue`.
     pub fn parse(text: &str) -> Result<DedupId, SqsError> {
         is_short_and_printable(text)
             .then(|| DedupId(text.into()))
@@ -165,6 +170,7 @@ impl DedupId {
         fingerprint_of(&self.0)
     }
 
+    /// The text.
     pub fn as_str(&self) -> &str {
         &self.0
     }
@@ -195,6 +201,7 @@ impl CallKey {
 pub struct AttemptId(std::sync::Arc<str>);
 
 impl AttemptId {
+    /// The id in `text`, or `InvalidParameterValue`.
     pub fn parse(text: &str) -> Result<AttemptId, SqsError> {
         is_short_and_printable(text)
             .then(|| AttemptId(text.into()))
@@ -208,6 +215,7 @@ impl AttemptId {
 pub struct Body(String);
 
 impl Body {
+    /// The body in `text`; `MissingParameter` where it is empty, or `InvalidMessageContents`.
     pub fn parse(text: &str) -> Result<Body, SqsError> {
         if text.is_empty() {
             return Err(SqsError::MissingParameter("MessageBody".into()));
@@ -216,6 +224,7 @@ impl Body {
         Ok(Body(text.into()))
     }
 
+    /// The text.
     pub fn as_str(&self) -> &str {
         &self.0
     }

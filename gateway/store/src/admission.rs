@@ -33,6 +33,7 @@ pub struct Admission {
 }
 
 impl Admission {
+    /// A bound of so many bytes for what these tables count, or none.
     pub fn new(queues: Arc<Queues>, limit: Option<u64>) -> Admission {
         let memory = Bound::default();
         memory.set(limit);

@@ -37,10 +37,12 @@ impl Counters {
         self.serves.load(Ordering::Relaxed)
     }
 
+    /// A program was started again.
     pub fn count_restart(&self) {
         self.restarts.fetch_add(1, Ordering::Relaxed);
     }
 
+    /// A request was refused since a journal had no room.
     pub fn count_lack_of_room(&self) {
         self.lacked_room.fetch_add(1, Ordering::Relaxed);
     }

@@ -148,10 +148,12 @@ fn with_suffix(path: &Path, suffix: &str) -> PathBuf {
 }
 
 impl Files {
+    /// The files of a journal by the path that names it, each of so many MiB where it is made.
     pub fn new(path: PathBuf, shards: Shards, size: Option<u64>) -> Files {
         Files { path, shards, size }
     }
 
+    /// The path that names the journal.
     pub fn path(&self) -> &Path {
         &self.path
     }

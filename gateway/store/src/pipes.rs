@@ -122,16 +122,19 @@ pub struct Output {
 }
 
 impl Input {
+    /// The pipe of a program.
     pub fn new(pipe: ChildStdin) -> Input {
         Input { pipe: InputPipe::Program(pipe), looks: Looks::default() }
     }
 
+    /// The socket of a node.
     pub fn of_node(half: OwnedWriteHalf) -> Input {
         Input { pipe: InputPipe::Node(half), looks: Looks::default() }
     }
 }
 
 impl Output {
+    /// The pipe of a program.
     pub fn new(pipe: ChildStdout) -> Output {
         Output::of(OutputPipe::Program(pipe), PATIENCE)
     }

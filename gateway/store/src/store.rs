@@ -65,10 +65,12 @@ pub struct Store {
 }
 
 impl Store {
+    /// The tables of all queues.
     pub fn queues(&self) -> &Queues {
         &self.queues
     }
 
+    /// The clock by which they are.
     pub fn clock(&self) -> &Clock {
         &self.clock
     }
@@ -358,14 +360,17 @@ pub struct Held {
 }
 
 impl Held {
+    /// The queue that is held.
     pub fn queue(&self) -> &Arc<Queue> {
         &self.queue
     }
 
+    /// The answers to asks of the queue, in their order.
     pub async fn ask_all(&self, asks: Vec<Ask>) -> Vec<Answer> {
         self.store.submit(&self.queue, asks.into_iter().map(Operation::from).collect(), true, None).await
     }
 
+    /// The answer to one ask of the queue.
     pub async fn ask(&self, ask: Ask) -> Answer {
         self.ask_all(vec![ask]).await.pop().unwrap_or_else(|| Err(SqsError::store_is_gone()))
     }
@@ -445,6 +450,7 @@ impl Held {
         answers
     }
 
+    /// Has the book say of the queue what changes.
     pub async fn change(&self, change: TableChange) -> Answer {
         let answers = self.store.submit(&self.queue, vec![change.into()], true, None);
         answers.await.pop().unwrap_or_else(|| Err(SqsError::store_is_gone()))

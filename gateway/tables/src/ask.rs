@@ -159,6 +159,7 @@ impl Reach {
         }
     }
 
+    /// Whether what is handed out is a client's.
     pub fn is_for_client(&self) -> bool {
         matches!(self, Reach::All | Reach::Due(_))
     }

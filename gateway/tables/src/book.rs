@@ -89,6 +89,7 @@ pub struct ProgramEntry {
 pub const FORM: u32 = 1;
 
 impl ProgramEntry {
+    /// That of the program at this place, whose book has this build's form.
     pub fn new(place: usize, count: u32, secret: Uuid) -> ProgramEntry {
         ProgramEntry { place, count, secret, form: FORM }
     }
@@ -289,6 +290,7 @@ impl LeftOver {
         self.0.lock().unwrap_or_else(PoisonError::into_inner)
     }
 
+    /// These are to go of this program, too.
     pub fn add(&self, place: usize, names: impl IntoIterator<Item = StoreName>) {
         self.names().extend(names.into_iter().map(|name| (place, name)));
     }
@@ -309,6 +311,7 @@ impl LeftOver {
         self.names().contains(&(place, name))
     }
 
+    /// Those that are to go of this program.
     pub fn of(&self, place: usize) -> Vec<StoreName> {
         self.names().iter().filter(|(own, _)| *own == place).map(|(_, name)| *name).collect()
     }

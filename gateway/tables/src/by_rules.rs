@@ -11,6 +11,7 @@ use crate::store_name::StoreName;
 
 const WINDOW: u64 = 300_000;
 
+/// A store that keeps to the rules.
 #[derive(Clone, Default)]
 pub struct StoreByRules {
     entries: u64,

@@ -20,13 +20,16 @@ pub const QUEUE_BYTES: u64 = 4_096;
 pub const ID_BYTES: u64 = 3_500;
 
 /// What a message takes in the bytes of a store beside its envelope (`docs/WIRE.md`, "A store"): 62 bytes, its group and its
-/// deduplication id. What is left of it as long as its id counts, and what a queue takes beside the texts of its entries.
+/// deduplication id.
 pub const STORED_MESSAGE_BYTES: u64 = 200;
+/// The same of what is left of a message as long as its id counts.
 pub const STORED_ID_BYTES: u64 = 100;
+/// The same of a queue, beside the texts of its entries.
 pub const STORED_QUEUE_BYTES: u64 = 2_000;
 
-/// What a store keeps for good of the name of a queue or a book that is gone, in bytes of memory and of a file.
+/// What a store keeps for good of the name of a queue or a book that is gone, in bytes of memory.
 pub const GONE_NAME_BYTES: u64 = 1_700;
+/// The same in bytes of a file.
 pub const STORED_NAME_BYTES: u64 = 100;
 
 /// Where names that are gone take so large a part of a bound, no more queues are made: messages have the rest.
@@ -45,6 +48,7 @@ pub struct Bound {
 }
 
 impl Bound {
+    /// From now on this is the bound, in bytes, or there is none.
     pub fn set(&self, limit: Option<u64>) {
         self.limit.store(limit.map_or(0, |limit| limit.max(1)), Ordering::Relaxed);
     }

@@ -70,6 +70,7 @@ impl Presence {
         sockets.all().count() == self.0.present.load(Ordering::Relaxed) && sockets.all().all(is_hung_up)
     }
 
+    /// Whether no request waits any more.
     pub fn is_gone(&self) -> bool {
         self.0.present.load(Ordering::Relaxed) == 0
     }

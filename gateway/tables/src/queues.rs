@@ -70,6 +70,7 @@ impl Queues {
         Some(self.nameless.get_or_init(|| Arc::new(Queue::new(&entry))).clone())
     }
 
+    /// The books of all programs.
     pub fn books(&self) -> &Books {
         &self.books
     }
@@ -84,10 +85,12 @@ impl Queues {
         &self.left_over
     }
 
+    /// The queue of this name, if there is one.
     pub fn find(&self, name: &QueueName) -> Option<Arc<Queue>> {
         self.by_name.read().unwrap_or_else(PoisonError::into_inner).get(name).cloned()
     }
 
+    /// The queue of this name, or `QueueDoesNotExist`.
     pub fn get(&self, name: &QueueName) -> Result<Arc<Queue>, SqsError> {
         self.find(name).ok_or(SqsError::QueueDoesNotExist)
     }

@@ -19,6 +19,7 @@ impl Shards {
         (1..=MOST).contains(&count).then_some(Shards(count))
     }
 
+    /// How many there are.
     pub fn count(self) -> u32 {
         self.0
     }
@@ -53,10 +54,12 @@ pub struct Shard {
 }
 
 impl Shard {
+    /// Whether it has the queue of this name.
     pub fn has(self, name: &QueueName) -> bool {
         self.shards.place_of(name) == self.place as usize
     }
 
+    /// Its place among all, from 0.
     pub fn place(self) -> usize {
         self.place as usize
     }

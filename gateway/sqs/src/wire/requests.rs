@@ -97,6 +97,7 @@ impl Request {
         }
     }
 
+    /// The action that it asks for.
     pub fn action(&self) -> Action {
         match self {
             Request::AddPermission { .. } => Action::AddPermission,
@@ -169,6 +170,7 @@ impl NewMessage {
     }
 }
 
+/// What ReceiveMessage asks for.
 #[derive(Clone, Debug, PartialEq, Eq)]
 pub struct Receive {
     /// 1 to 10.
@@ -229,6 +231,7 @@ pub enum SystemAttribute {
 }
 
 impl SystemAttribute {
+    /// All of them.
     pub const ALL: [SystemAttribute; 9] = [
         SystemAttribute::TraceHeader,
         SystemAttribute::ApproximateFirstReceiveTimestamp,
@@ -241,6 +244,7 @@ impl SystemAttribute {
         SystemAttribute::SequenceNumber,
     ];
 
+    /// The name that clients give and are told.
     pub fn name(self) -> &'static str {
         match self {
             SystemAttribute::ApproximateFirstReceiveTimestamp => "ApproximateFirstReceiveTimestamp",
@@ -292,10 +296,12 @@ impl Shown {
         Ok(Shown { system, names: members.texts("MessageAttributeNames", MOST_NAMES)? })
     }
 
+    /// How many bytes the names take of memory.
     pub fn bytes_kept(&self) -> usize {
         self.names.iter().map(|name| std::mem::size_of::<String>() + name.len()).sum()
     }
 
+    /// The system attributes that were asked for.
     pub fn system(&self) -> &[SystemAttribute] {
         &self.system
     }

@@ -119,6 +119,7 @@ pub struct Failed {
 }
 
 impl Failed {
+    /// The entry of this id, and why it failed.
     pub fn new(id: String, error: &SqsError) -> Failed {
         let (code, message) = (error.coded().code, error.client_message());
         Failed { id, sender_fault: error.is_sender_fault(), code, message }

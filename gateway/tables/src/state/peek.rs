@@ -21,6 +21,7 @@ pub enum Cursor {
 }
 
 impl Cursor {
+    /// Ahead of all messages.
     pub const FIRST: Cursor = Cursor::Stored(0);
 }
 

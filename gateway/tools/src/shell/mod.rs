@@ -19,6 +19,7 @@ use rustyline::Editor;
 use carrying::Carrier;
 use words::{Word, HELP};
 
+/// The options of the shell.
 #[derive(Args)]
 pub struct Shell {
     /// How many servers the chain begins with, from 1 to 8
