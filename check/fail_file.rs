@@ -1,8 +1,9 @@
 //! Loaded into a program ahead of the C library, it lets calls on one file fail: those of the kind and from the number on that the
-//! environment's `FAIL` says, as `sync:3` for the third one alone, or `sync:3+` for it and all behind it. Kinds are `open`,
-//! `length`, `read`, `write`, `sync` and, of the file's folder, `folder-sync`. A `write` that fails writes nothing, and
-//! `write-part` half of its bytes first; `full` says that the disk has no space. `FAIL_FILE` is how the file's name ends. It says
-//! on standard error once that a call fails, and with `FAIL=count` at the end how many calls there were of each kind.
+//! environment's `FAIL` says, as `sync:3` for the third one alone, `sync:3+` for it and all behind it, or `read:1,sync:3` for both.
+//! Kinds are `open`, `length`, `read`, `write`, `sync` and, of the file's folder, `folder-sync`. A `write` that fails writes nothing,
+//! and `write-part` half of its bytes first; `full` says that the disk has no space. Of the reads within a journal's root, which are
+//! counted apart, one that is `stale` gives zeros. `FAIL_FILE` is how the file's name ends. It says on standard error once that a call fails, and with `FAIL=count` at the end how many calls there
+//! were of each kind.
 use std::ffi::{c_char, c_int, c_void, CStr, CString};
 use std::sync::atomic::{AtomicBool, AtomicU64, Ordering};
 
@@ -18,9 +19,12 @@ const NO_SPACE: c_int = 28;
 /// What `dlsym` takes for the next library that has the name: the C library's own function.
 const NEXT: *mut c_void = -1_isize as *mut c_void;
 
-const KINDS: [&str; 6] = ["open", "length", "read", "write", "sync", "folder-sync"];
+const KINDS: [&str; 7] = ["open", "length", "read", "write", "sync", "folder-sync", "root-read"];
 
-static COUNTS: [AtomicU64; 6] = [const { AtomicU64::new(0) }; 6];
+/// How many bytes the two halves of a root have.
+const ROOT: i64 = 2 * 524_288;
+
+static COUNTS: [AtomicU64; 7] = [const { AtomicU64::new(0) }; 7];
 static SAID: AtomicBool = AtomicBool::new(false);
 
 /// How a call is to go on.
@@ -29,6 +33,8 @@ enum Fate {
     Fails(c_int),
     /// Half of it is done first.
     Breaks,
+    /// It gives zeros.
+    IsStale,
 }
 
 fn variable(name: &str) -> String {
@@ -45,26 +51,38 @@ fn tell_counts() {
     say(&format!("calls: {}\n", counts.collect::<Vec<_>>().join(", ")));
 }
 
+/// What becomes of the call with that number of a kind, if this is said of it.
+fn fate_said(kind: &str, number: u64, said: &str) -> Option<Fate> {
+    let (wanted, from) = said.split_once(':')?;
+    let (from, is_for_good) = from.strip_suffix('+').map_or((from, false), |from| (from, true));
+    let is_one = from.parse().is_ok_and(|from: u64| number == from || is_for_good && number > from);
+    let fate = match wanted {
+        "full" if kind == "write" || kind == "length" => Fate::Fails(NO_SPACE),
+        "write-part" if kind == "write" => Fate::Breaks,
+        "stale" if kind == "root-read" => Fate::IsStale,
+        wanted if wanted == kind => Fate::Fails(BROKEN),
+        _ => return None,
+    };
+    is_one.then_some(fate)
+}
+
 /// What becomes of the next call of that kind.
 fn fate(kind: usize) -> Fate {
     let number = COUNTS[kind].fetch_add(1, Ordering::Relaxed) + 1;
     let said = variable("FAIL");
-    let Some((wanted, from)) = said.split_once(':') else { return Fate::Goes };
-    let (from, is_for_good) = from.strip_suffix('+').map_or((from, false), |from| (from, true));
-    let is_one = from.parse().is_ok_and(|from: u64| number == from || is_for_good && number > from);
-    let fate = match wanted {
-        "full" if KINDS[kind] == "write" || KINDS[kind] == "length" => Fate::Fails(NO_SPACE),
-        "write-part" if KINDS[kind] == "write" => Fate::Breaks,
-        wanted if wanted == KINDS[kind] => Fate::Fails(BROKEN),
-        _ => return Fate::Goes,
-    };
-    if !is_one {
-        return Fate::Goes;
-    }
+    let Some(fate) = said.split(',').find_map(|one| fate_said(KINDS[kind], number, one)) else { return Fate::Goes };
     if !SAID.swap(true, Ordering::Relaxed) {
         say("a call fails\n");
     }
     fate
+}
+
+/// What becomes of the next read or write, which is at this place.
+fn fate_at(kind: usize, at: i64) -> Fate {
+    match fate(kind) {
+        Fate::Goes if KINDS[kind] == "read" && at < ROOT => fate(6),
+        fate => fate,
+    }
 }
 
 fn failed(error: c_int) -> c_int {
@@ -116,7 +134,7 @@ macro_rules! opens {
             match if is_the_file(&CStr::from_ptr(path).to_string_lossy()) { fate(0) } else { Fate::Goes } {
                 Fate::Goes => next::<Open>(stringify!($name))(path, flags, mode),
                 Fate::Fails(error) => failed(error),
-                Fate::Breaks => failed(BROKEN),
+                Fate::Breaks | Fate::IsStale => failed(BROKEN),
             }
         }
     )*};
@@ -129,7 +147,7 @@ macro_rules! opens_at {
             match if is_the_file(&CStr::from_ptr(path).to_string_lossy()) { fate(0) } else { Fate::Goes } {
                 Fate::Goes => next::<OpenAt>(stringify!($name))(folder, path, flags, mode),
                 Fate::Fails(error) => failed(error),
-                Fate::Breaks => failed(BROKEN),
+                Fate::Breaks | Fate::IsStale => failed(BROKEN),
             }
         }
     )*};
@@ -139,12 +157,17 @@ macro_rules! moves {
     ($kind:literal: $($name:ident)*) => {$(
         #[no_mangle]
         pub unsafe extern "C" fn $name(file: c_int, bytes: *mut c_void, len: usize, at: i64) -> isize {
-            match if is_of(file).0 { fate($kind) } else { Fate::Goes } {
+            match if is_of(file).0 { fate_at($kind, at) } else { Fate::Goes } {
                 Fate::Goes => next::<At>(stringify!($name))(file, bytes, len, at),
                 Fate::Fails(error) => failed(error) as isize,
                 Fate::Breaks => {
                     next::<At>(stringify!($name))(file, bytes, len / 2, at);
                     failed(BROKEN) as isize
+                }
+                Fate::IsStale => {
+                    let done = next::<At>(stringify!($name))(file, bytes, len, at);
+                    bytes.cast::<u8>().write_bytes(0, done.max(0) as usize);
+                    done
                 }
             }
         }
@@ -158,7 +181,7 @@ macro_rules! lengths {
             match if is_of(file).0 { fate(1) } else { Fate::Goes } {
                 Fate::Goes => next::<Length>(stringify!($name))(file, len),
                 Fate::Fails(error) => failed(error),
-                Fate::Breaks => failed(BROKEN),
+                Fate::Breaks | Fate::IsStale => failed(BROKEN),
             }
         }
     )*};
@@ -176,7 +199,7 @@ macro_rules! syncs {
             match fate {
                 Fate::Goes => next::<Sync>(stringify!($name))(file),
                 Fate::Fails(error) => failed(error),
-                Fate::Breaks => failed(BROKEN),
+                Fate::Breaks | Fate::IsStale => failed(BROKEN),
             }
         }
     )*};

@@ -1,6 +1,7 @@
 pub mod Appends
 mod Bases
 mod Changes
+mod Confirmed
 pub mod Copies
 mod Examples
 mod Faults

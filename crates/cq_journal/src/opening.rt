@@ -56,6 +56,7 @@ pub fn read_root<D: Device>(
     let found = find_root(alloc, region)?;
     let half = region.len;
     refresh_found(alloc, &mut region.device, half, &found)?;
+    confirm(alloc, region, &found)?;
     Ok(found)
 }
 
@@ -114,6 +115,51 @@ fn refresh_found<D: Device>(
     match device.torn_writes() {
         TornWrites::OldOrNew => refresh(alloc, device, it.start, half),
         TornWrites::Any => device.sync(),
+    }
+}
+
+/// Reads the half again whose root was found: what was written over it was read by itself, and a system may have let go of what it kept of
+/// the file meanwhile. `Damaged`: the half hasn't the root any more.
+fn confirm<D: Device>(
+    alloc: Global,
+    region: &mut Region<D>,
+    found: &Option<Found>,
+) -> Result<(), ReadFault>
+    requires start { region.old.start ≡ 0 }
+    requires half { IfSome found.now (λ it. (it.start ≡ 0) ⊎ (it.start ≡ region.old.len)) }
+    requires room { region.old.len + region.old.len ≤ length (D.seen region.old.device) }
+    ensures place { OnOk result ((region.new.start ≡ 0) × (region.new.len ≡ region.old.len)) }
+    ensures seen { D.seen region.new.device ≡ D.seen region.old.device }
+    ensures durable { Only (D.seen region.old.device) (D.may_leave region.old.device) → Only (D.seen region.new.device) (D.may_leave region.new.device) }
+    ensures any_moment { Only (D.seen region.old.device) (D.may_leave region.old.device) → LeavesOnly D.moment D.left_since region.old.device region.new.device
+        (λ c. c ≡ D.seen region.old.device) }
+    ensures honest { IsTrue (D.is_honest region.new.device) → IsTrue (D.is_honest region.old.device) }
+    ensures damaged { IsErrOf result ReadFault.Damaged → IsTrue (D.is_honest region.new.device) → IsFound region.old.len (D.seen region.old.device) found.now → HasSoundHalves region.old.len (D.seen region.old.device) → ⊥ }
+    ensures later { D.faults region.old.device ≤ D.faults region.new.device }
+    ensures failed { IsErrOf result ReadFault.Failed → D.faults region.old.device < D.faults region.new.device }
+{
+    let Some(it) = found else {
+        return Ok(());
+    };
+    let _len = region.device.len();
+    region.start = it.start;
+    let again = read_half(alloc, region)?;
+    region.start = 0;
+    if is_same(&again, &it.bytes) {
+        Ok(())
+    } else {
+        Err(ReadFault::Damaged)
+    }
+}
+
+/// Whether a half's record has these bytes.
+fn is_same(there: &Option<Vec<u8>>, bytes: &[u8]) -> bool
+    ensures same { result ≡ true → items_of there.now ≡ Some bytes.now }
+    ensures other { result ≡ false → items_of there.now ≡ Some bytes.now → ⊥ }
+{
+    match there {
+        Some(there) => are_same(there.as_slice(), bytes),
+        None => false,
     }
 }
 
