@@ -1,6 +1,6 @@
 -- Pieces and chunks as they are written.
-use Rattle.std.proofs.Common.{◌≡◌, ℕ, List, [], ◌++◌, length, Result, Ok, sym, ◌∙◌, ap, append_assoc, append-nil, arith}
-use Rattle.std.specs.Prelude.{false}
+use Rattle.std.proofs.Common.{◌≡◌, ℕ, List, [], ◌++◌, length, Result, Ok, Err, sym, ◌∙◌, ap, append_assoc, append-nil, arith}
+use Rattle.std.specs.Prelude.{false, OnOk}
 use Rattle.cq_store.specs.Stands.{StoreKept}
 use Rattle.cq_wire.specs.declared.fault.WireFault.{WireFault}
 use Rattle.cq_wire.specs.Reading.{◌>>=◌}
@@ -18,6 +18,10 @@ use Rattle.cq_store_wire.proofs.Passing.{IsPassed, chunk-passed}
 use Rattle.cq_store_wire.proofs.Rebuilt.{store-built}
 use Rattle.cq_kept_base.specs.Stuffed.{unstuffed}
 use Rattle.cq_kept_base.specs.Stuffing.{Stuffs}
+
+pub if_ok : {T E P Q : Type 0} (r : Result T E) → OnOk r P → (P → Q) → OnOk r Q
+if_ok (Ok x) p next = next p
+if_ok (Err e) p next = tt
 
 -- ---- pieces
 

@@ -1,3 +1,4 @@
 pub mod Examples
 pub mod Stuffed
 pub mod Stuffing
+pub mod Writing

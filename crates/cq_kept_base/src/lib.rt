@@ -6,9 +6,11 @@ mod laws;
 mod records;
 mod schedule;
 mod stuffing;
+mod writer;
 
 pub use counts::message_count;
 pub use laws::texts_are_stuffed_so;
-pub use records::{add_record, batch_of, begin_base, next_chunk, piece_size, piece_text};
+pub use records::{batch_of, next_chunk, piece_size, piece_text};
 pub use schedule::Schedule;
 pub use stuffing::{stuff, unstuffed};
+pub use writer::{BaseWriter, add_record, begin_base, end_base};

@@ -1,11 +1,7 @@
-//! The records of a base: its pieces, as they are written beside a journal's regions.
-ghost use Rattle.std.specs.Prelude.{◌≡◌, ◌<◌, ◌++◌, [], ◌∷◌, ℕ, List, length, IfOk, OnOk, IsErrOf};
+//! The records of a base: its pieces.
+ghost use Rattle.std.specs.Prelude.{◌≡◌, ◌<◌, ◌++◌, [], ◌∷◌, ℕ, List, length, IfOk, OnOk};
 ghost use Rattle.cq_records.specs.Batch.{batch_bytes};
 ghost use Rattle.cq_records.specs.Frames.{records};
-ghost use Rattle.cq_records.specs.declared.fault.LogFault.TheVariants.{Full};
-ghost use Rattle.cq_journal.specs.Base.{IsBase, base_records};
-ghost use Rattle.cq_journal.specs.Journal.{IsJournal};
-ghost use Rattle.cq_journal.specs.Rests.{Rests};
 ghost use Rattle.cq_store_wire.specs.Chunks.{IsChunk};
 ghost use Rattle.cq_store_wire.specs.Order.{parts_from};
 ghost use Rattle.cq_store_wire.specs.declared.writer.Place.TheVariants as places;
@@ -13,8 +9,6 @@ ghost use Rattle.cq_kept_base.specs.Stuffing.{Stuffs};
 
 use crate::stuffing::stuff;
 use cq_base::NoMemory;
-use cq_disk::Device;
-use cq_journal::{Base, Journal};
 use cq_records::{Batch, LogFault, is_text};
 use cq_store::Store;
 use cq_store_wire::StoreWriter;
@@ -41,81 +35,6 @@ pub fn batch_of(alloc: Global, text: &[u8]) -> Result<Batch, LogFault>
     let mut batch = Batch::new(alloc);
     batch.add(text)?;
     Ok(batch)
-}
-
-/// Begins a base in a free region. `Full`: there is none, and the journal goes on.
-pub fn begin_base<D: Device>(journal: &mut Journal<D>, alloc: Global) -> Result<Base, LogFault>
-    requires { IsJournal journal.old }
-
-    ensures journal { OnOk result (IsJournal journal.new) }
-    ensures rests { Rests journal.old journal.new }
-    ensures base { IfOk result (λ base. IsBase journal.new base) }
-    ensures empty { IfOk result (λ base. base_records journal.new base ≡ []) }
-    ensures full { IsErrOf result Full → IsJournal journal.new }
-{
-    journal.begin_base(alloc)
-}
-
-/// Adds a batch to a base. `Full`: the region that grows has no room for it, and the base is the same.
-fn add_batch<D: Device>(
-    journal: &mut Journal<D>,
-    base: &mut Base,
-    batch: &Batch,
-) -> Result<(), LogFault>
-    requires journal { IsJournal journal.old }
-    requires base { IsBase journal.old base.old }
-
-    ensures journal { OnOk result (IsJournal journal.new) }
-    ensures rests { Rests journal.old journal.new }
-    ensures base { OnOk result (IsBase journal.new base.new) }
-    ensures added { OnOk result (base_records journal.new base.new ≡ base_records journal.old base.old ++ records (batch_bytes batch.now)) }
-    ensures full { IsErrOf result Full → IsJournal journal.new × IsBase journal.new base.new × (base_records journal.new base.new ≡ base_records journal.old base.old) }
-{
-    journal.add_to_base(base, batch)
-}
-
-/// Has a base go on in one more region. `Full`: none is free, and the journal goes on.
-fn widen_base<D: Device>(
-    journal: &mut Journal<D>,
-    alloc: Global,
-    base: &mut Base,
-) -> Result<(), LogFault>
-    requires journal { IsJournal journal.old }
-    requires base { IsBase journal.old base.old }
-
-    ensures journal { OnOk result (IsJournal journal.new) }
-    ensures rests { Rests journal.old journal.new }
-    ensures base { OnOk result (IsBase journal.new base.new) }
-    ensures same { OnOk result (base_records journal.new base.new ≡ base_records journal.old base.old) }
-    ensures full { IsErrOf result Full → IsJournal journal.new }
-{
-    journal.widen_base(alloc, base)
-}
-
-/// Adds a record to a base, in one more region where it has to. `Full`: there is no space for it, and the journal goes on.
-pub fn add_record<D: Device>(
-    journal: &mut Journal<D>,
-    alloc: Global,
-    base: &mut Base,
-    text: &[u8],
-) -> Result<(), LogFault>
-    requires journal { IsJournal journal.old }
-    requires base { IsBase journal.old base.old }
-
-    ensures journal { OnOk result (IsJournal journal.new) }
-    ensures rests { Rests journal.old journal.new }
-    ensures base { OnOk result (IsBase journal.new base.new) }
-    ensures added { OnOk result (base_records journal.new base.new ≡ base_records journal.old base.old ++ text.now ∷ []) }
-    ensures full { IsErrOf result Full → IsJournal journal.new }
-{
-    let batch = batch_of(alloc, text)?;
-    match add_batch(journal, base, &batch) {
-        Ok(()) => return Ok(()),
-        Err(LogFault::Full) => (),
-        Err(fault) => return Err(fault),
-    }
-    widen_base(journal, alloc, base)?;
-    add_batch(journal, base, &batch)
 }
 
 /// The text of a piece that stands for these bytes, behind what its record begins with.

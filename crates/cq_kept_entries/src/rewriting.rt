@@ -2,6 +2,7 @@
 ghost use Rattle.std.specs.Prelude.{◌≡◌, ◌⊎◌, ◌≤◌, ◌++◌, [], ◌∷◌, ℕ, List, Ok, Some, IfOk, OnOk, IsErrOf, IsTrue};
 ghost use Rattle.cq_base.specs.declared.ask.Entry as base_entry;
 ghost use Rattle.cq_disk.specs.Device.{LeavesOnly};
+ghost use Rattle.cq_records.specs.Batch.{batch_bytes};
 ghost use Rattle.cq_records.specs.Frames.{joined};
 ghost use Rattle.cq_records.specs.declared.fault.LogFault.TheVariants.{Full};
 ghost use Rattle.cq_journal.specs.Base.{IsBase, base_records};
@@ -13,6 +14,7 @@ ghost use Rattle.cq_store.specs.Stands as stores;
 ghost use Rattle.cq_store_wire.specs.Building.{fed};
 ghost use Rattle.cq_store_wire.specs.declared.build.State.{State};
 ghost use Rattle.cq_store_wire.specs.declared.build.State.TheVariants as states;
+ghost use Rattle.cq_kept_base.specs.Writing.{writer_records};
 ghost use Rattle.cq_kept_entries.specs.Kept.{BytesStandFor};
 ghost use Rattle.cq_kept_entries.specs.Pieces.{AreOf, at, listing, read, start, storing};
 
@@ -20,7 +22,9 @@ use crate::KeptEntries;
 use crate::reader::STORE_HEAD;
 use cq_disk::Device;
 use cq_journal::{Base, Journal};
-use cq_kept_base::{add_record, begin_base, message_count, next_chunk, piece_size, piece_text};
+use cq_kept_base::{
+    BaseWriter, add_record, begin_base, end_base, message_count, next_chunk, piece_size, piece_text,
+};
 use cq_records::LogFault;
 use cq_store::Store;
 use cq_store_wire::{StoreWriter, store_fits};
@@ -30,17 +34,17 @@ use std::alloc::Global;
 fn add_piece<D: Device>(
     journal: &mut Journal<D>,
     alloc: Global,
-    base: &mut Base,
+    base: &mut BaseWriter,
     chunk: &[u8],
 ) -> Result<(), LogFault>
     requires journal { IsJournal journal.old }
-    requires base { IsBase journal.old base.old }
+    requires base { IsBase journal.old base.old.base }
 
     ensures journal { OnOk result (IsJournal journal.new) }
     ensures rests { Rests journal.old journal.new }
-    ensures base { OnOk result (IsBase journal.new base.new) }
-    ensures added { (state next : State) → read start (joined (base_records journal.old base.old)) ≡ at [] (storing state) → fed chunk.now state ≡ Ok next
-        → OnOk result (read start (joined (base_records journal.new base.new)) ≡ at [] (storing next)) }
+    ensures base { OnOk result (IsBase journal.new base.new.base) }
+    ensures added { (state next : State) → read start (joined (writer_records journal.old base.old)) ≡ at [] (storing state) → fed chunk.now state ≡ Ok next
+        → OnOk result (read start (joined (writer_records journal.new base.new)) ≡ at [] (storing next)) }
     ensures full { IsErrOf result Full → IsJournal journal.new }
 {
     let text = piece_text(alloc, &[], chunk)?;
@@ -51,17 +55,17 @@ fn add_piece<D: Device>(
 fn add_store<D: Device>(
     journal: &mut Journal<D>,
     alloc: Global,
-    base: &mut Base,
+    base: &mut BaseWriter,
     store: &Store,
 ) -> Result<(), LogFault>
     requires journal { IsJournal journal.old }
-    requires base { IsBase journal.old base.old }
+    requires base { IsBase journal.old base.old.base }
 
     ensures journal { OnOk result (IsJournal journal.new) }
     ensures rests { Rests journal.old journal.new }
-    ensures base { OnOk result (IsBase journal.new base.new) }
-    ensures added { read start (joined (base_records journal.old base.old)) ≡ at [] (storing states.Empty)
-        → OnOk result (read start (joined (base_records journal.new base.new)) ≡ at [] (storing (states.Whole store.now))) }
+    ensures base { OnOk result (IsBase journal.new base.new.base) }
+    ensures added { read start (joined (writer_records journal.old base.old)) ≡ at [] (storing states.Empty)
+        → OnOk result (read start (joined (writer_records journal.new base.new)) ≡ at [] (storing (states.Whole store.now))) }
     ensures full { IsErrOf result Full → IsJournal journal.new }
 {
     store_fits(store);
@@ -78,22 +82,23 @@ fn add_store<D: Device>(
 fn add_all<D: Device>(
     journal: &mut Journal<D>,
     alloc: Global,
-    base: &mut Base,
+    base: &mut BaseWriter,
     store: &Store,
 ) -> Result<(), LogFault>
     requires journal { IsJournal journal.old }
-    requires base { IsBase journal.old base.old }
-    requires empty { base_records journal.old base.old ≡ [] }
+    requires base { IsBase journal.old base.old.base }
+    requires empty { writer_records journal.old base.old ≡ [] }
 
     ensures journal { OnOk result (IsJournal journal.new) }
     ensures rests { Rests journal.old journal.new }
-    ensures base { OnOk result (IsBase journal.new base.new) }
-    ensures stands { OnOk result (read start (joined (base_records journal.new base.new)) ≡ at [] (listing (Some store.now) [])) }
+    ensures base { OnOk result (IsBase journal.new base.new.base) }
+    ensures stands { OnOk result (read start (joined (writer_records journal.new base.new)) ≡ at [] (listing (Some store.now) [])) }
+    ensures flushed { OnOk result (batch_bytes base.new.batch ≡ []) }
     ensures full { IsErrOf result Full → IsJournal journal.new }
 {
     add_record(journal, alloc, base, &STORE_HEAD)?;
     add_store(journal, alloc, base, store)?;
-    add_record(journal, alloc, base, b"\n")
+    end_base(journal, alloc, base, b"\n")
 }
 
 /// Writes a base beside the regions of a journal. `Full`: there is no space for it, and the journal goes on.
@@ -112,7 +117,7 @@ fn write_base<D: Device>(
 {
     let mut base = begin_base(journal, alloc)?;
     add_all(journal, alloc, &mut base, store)?;
-    Ok(base)
+    Ok(base.into_base())
 }
 
 /// Puts a base in the place of all records. `Full`: there is no space for it, and the journal goes on with the records that it had.

@@ -13,6 +13,7 @@ ghost use Rattle.cq_store_wire.specs.Order.{parts_from};
 ghost use Rattle.cq_store_wire.specs.declared.build.State.{State};
 ghost use Rattle.cq_store_wire.specs.declared.build.State.TheVariants as states;
 ghost use Rattle.cq_store_wire.specs.declared.writer.Place.TheVariants as places;
+ghost use Rattle.cq_kept_base.specs.Writing.{writer_records};
 ghost use Rattle.cq_kept_session.specs.Bases.{AreOf, Stage, based, fresh, header_of, lined, read, resumed, with_payload};
 ghost use Rattle.cq_kept_session.specs.Served.{Serves};
 ghost use Rattle.cq_kept_session.specs.Texts.{is_ended};
@@ -24,7 +25,9 @@ use crate::{Highest, KeptSession};
 use cq_base::NoMemory;
 use cq_disk::Device;
 use cq_journal::{Base, Journal};
-use cq_kept_base::{add_record, begin_base, message_count, next_chunk, piece_size, piece_text};
+use cq_kept_base::{
+    BaseWriter, add_record, begin_base, end_base, message_count, next_chunk, piece_size, piece_text,
+};
 use cq_records::LogFault;
 use cq_store::Store;
 use cq_store_wire::{StoreWriter, store_fits};
@@ -35,19 +38,19 @@ use std::alloc::Global;
 fn add_piece<D: Device>(
     journal: &mut Journal<D>,
     alloc: Global,
-    base: &mut Base,
+    base: &mut BaseWriter,
     front: &[u8],
     payload: &[u8],
 ) -> Result<(), LogFault>
     requires journal { IsJournal journal.old }
-    requires base { IsBase journal.old base.old }
+    requires base { IsBase journal.old base.old.base }
     requires payload { payload.now ≡ [] → ⊥ }
 
     ensures journal { OnOk result (IsJournal journal.new) }
     ensures rests { Rests journal.old journal.new }
-    ensures base { OnOk result (IsBase journal.new base.new) }
-    ensures added { (header : Option Header) (state : State) (stage : Stage) → read fresh (joined (base_records journal.old base.old) ++ front.now) ≡ based [] header state
-        → with_payload payload.now header state ≡ Ok stage → OnOk result (read fresh (joined (base_records journal.new base.new)) ≡ stage) }
+    ensures base { OnOk result (IsBase journal.new base.new.base) }
+    ensures added { (header : Option Header) (state : State) (stage : Stage) → read fresh (joined (writer_records journal.old base.old) ++ front.now) ≡ based [] header state
+        → with_payload payload.now header state ≡ Ok stage → OnOk result (read fresh (joined (writer_records journal.new base.new)) ≡ stage) }
     ensures full { IsErrOf result Full → IsJournal journal.new }
 {
     let text = piece_text(alloc, front, payload)?;
@@ -70,17 +73,17 @@ fn header_bytes(alloc: Global, lines: u64, clients: u32, queriers: u32) -> Resul
 fn add_store<D: Device>(
     journal: &mut Journal<D>,
     alloc: Global,
-    base: &mut Base,
+    base: &mut BaseWriter,
     store: &Store,
 ) -> Result<(), LogFault>
     requires journal { IsJournal journal.old }
-    requires base { IsBase journal.old base.old }
+    requires base { IsBase journal.old base.old.base }
 
     ensures journal { OnOk result (IsJournal journal.new) }
     ensures rests { Rests journal.old journal.new }
-    ensures base { OnOk result (IsBase journal.new base.new) }
-    ensures added { (header : Header) → read fresh (joined (base_records journal.old base.old)) ≡ based [] (Some header) states.Empty
-        → OnOk result (read fresh (joined (base_records journal.new base.new)) ≡ based [] (Some header) (states.Whole store.now)) }
+    ensures base { OnOk result (IsBase journal.new base.new.base) }
+    ensures added { (header : Header) → read fresh (joined (writer_records journal.old base.old)) ≡ based [] (Some header) states.Empty
+        → OnOk result (read fresh (joined (writer_records journal.new base.new)) ≡ based [] (Some header) (states.Whole store.now)) }
     ensures full { IsErrOf result Full → IsJournal journal.new }
 {
     store_fits(store);
@@ -97,25 +100,26 @@ fn add_store<D: Device>(
 fn add_all<D: Device>(
     journal: &mut Journal<D>,
     alloc: Global,
-    base: &mut Base,
+    base: &mut BaseWriter,
     header: &[u8],
     store: &Store,
 ) -> Result<(), LogFault>
     requires journal { IsJournal journal.old }
-    requires base { IsBase journal.old base.old }
-    requires empty { base_records journal.old base.old ≡ [] }
+    requires base { IsBase journal.old base.old.base }
+    requires empty { writer_records journal.old base.old ≡ [] }
     requires header { header.now ≡ [] → ⊥ }
 
     ensures journal { OnOk result (IsJournal journal.new) }
     ensures rests { Rests journal.old journal.new }
-    ensures base { OnOk result (IsBase journal.new base.new) }
-    ensures stands { (value : Header) → header_of header.now ≡ Ok value → OnOk result (read fresh (joined (base_records journal.new base.new)) ≡ lined (resumed value store.now) []) }
-    ensures ended { OnOk result (is_ended (joined (base_records journal.new base.new)) ≡ true) }
+    ensures base { OnOk result (IsBase journal.new base.new.base) }
+    ensures stands { (value : Header) → header_of header.now ≡ Ok value → OnOk result (read fresh (joined (writer_records journal.new base.new)) ≡ lined (resumed value store.now) []) }
+    ensures ended { OnOk result (is_ended (joined (writer_records journal.new base.new)) ≡ true) }
+    ensures flushed { OnOk result (batch_bytes base.new.batch ≡ []) }
     ensures full { IsErrOf result Full → IsJournal journal.new }
 {
     add_piece(journal, alloc, base, &[MARK], header)?;
     add_store(journal, alloc, base, store)?;
-    add_record(journal, alloc, base, b"\n")
+    end_base(journal, alloc, base, b"\n")
 }
 
 /// Writes a base beside the regions of a journal. `Full`: there is no space for it, and the journal goes on.
@@ -140,7 +144,7 @@ fn write_base<D: Device>(
     };
     let mut base = begin_base(journal, alloc)?;
     add_all(journal, alloc, &mut base, &bytes, store)?;
-    Ok(base)
+    Ok(base.into_base())
 }
 
 /// Puts a base in the place of all records. `Full`: there is no space for it, and the journal goes on with the records that it had.

@@ -1,9 +1,9 @@
 -- The header, the store, and the end.
 use Rattle.std.proofs.Common.{◌≡◌, [], ◌∷◌, ◌++◌, None, Some, ◌∙◌, ap}
 use Rattle.cq_records.specs.Frames.{joined}
-use Rattle.cq_journal.specs.Base.{base_records}
 use Rattle.cq_journal.proofs.Copies.{rests_on}
 use Rattle.cq_store_wire.specs.declared.build.State.TheVariants as states
+use Rattle.cq_kept_base.specs.Writing.{writer_records}
 use Rattle.cq_kept_session.specs.Bases.{based, fresh, read}
 use Rattle.cq_kept_session.proofs.Bases.{with_header}
 use Rattle.cq_kept_session.proofs.Pieces.{if_ok}
@@ -18,18 +18,18 @@ returns-in_err-add_store-clause-rests g c = rests_on c.args.journal.now c.add_pi
 pub returns-clause-rests : goal.returns-clause-rests
 returns-clause-rests g c =
     let both = rests_on c.args.journal.now c.add_piece.new.journal c.add_store.new.journal c.add_piece.ensures.rests c.add_store.ensures.rests in
-    rests_on c.args.journal.now c.add_store.new.journal c.add_record.new.journal both c.add_record.ensures.rests
+    rests_on c.args.journal.now c.add_store.new.journal c.end_base.new.journal both c.end_base.ensures.rests
 
 pub returns-clause-stands : goal.returns-clause-stands
 returns-clause-stands g c = λ value is.
-    let begun : read fresh (joined (base_records c.args.journal.now c.args.base.now) ++ 2 ∷ []) ≡ based [] None states.Empty = ap (λ rs. read fresh (joined rs ++ 2 ∷ [])) c.requires.empty in
-    let headed : read fresh (joined (base_records c.add_piece.new.journal c.add_piece.new.base)) ≡ based [] (Some value) states.Empty =
+    let begun : read fresh (joined (writer_records c.args.journal.now c.args.base.now) ++ 2 ∷ []) ≡ based [] None states.Empty = ap (λ rs. read fresh (joined rs ++ 2 ∷ [])) c.requires.empty in
+    let headed : read fresh (joined (writer_records c.add_piece.new.journal c.add_piece.new.base)) ≡ based [] (Some value) states.Empty =
     c.in_ok-add_piece.ensures.added None states.Empty (based [] (Some value) states.Empty) begun (with_header c.args.header.now value states.Empty is) in
     let stored = c.in_ok-add_store.ensures.added value headed in
-    if_ok c.add_record.result c.add_record.ensures.added (λ is_more.
-    ap (λ rs. read fresh (joined rs)) is_more ∙ base_ended (base_records c.add_store.new.journal c.add_store.new.base) value c.args.store.now stored)
+    if_ok c.end_base.result c.end_base.ensures.added (λ is_more.
+    ap (λ rs. read fresh (joined rs)) is_more ∙ base_ended (writer_records c.add_store.new.journal c.add_store.new.base) value c.args.store.now stored)
 
 pub returns-clause-ended : goal.returns-clause-ended
 returns-clause-ended g c =
-    let old = base_records c.add_store.new.journal c.add_store.new.base in
-    if_ok c.add_record.result c.add_record.ensures.added (λ is. ap (λ rs. is_ended (joined rs)) is ∙ ap is_ended (joined_more old (10 ∷ [])) ∙ line_ended (joined old))
+    let old = writer_records c.add_store.new.journal c.add_store.new.base in
+    if_ok c.end_base.result c.end_base.ensures.added (λ is. ap (λ rs. is_ended (joined rs)) is ∙ ap is_ended (joined_more old (10 ∷ [])) ∙ line_ended (joined old))

@@ -2,12 +2,12 @@
 use Rattle.std.proofs.Common.{◌≡◌, List, ℕ, [], Some, Ok, refl, sym, ◌∙◌, ap, append-nil}
 use Rattle.std.specs.Prelude.{◌++◌}
 use Rattle.cq_records.specs.Frames.{joined}
-use Rattle.cq_journal.specs.Base.{base_records}
 use Rattle.cq_journal.proofs.Copies.{rests_on, rests_self}
 use Rattle.cq_store_wire.specs.declared.build.State.{State}
 use Rattle.cq_store_wire.specs.declared.build.State.TheVariants as states
 use Rattle.cq_store_wire.specs.Building.{fed}
 use Rattle.cq_store_wire.proofs.Passing.{all-passed, begun}
+use Rattle.cq_kept_base.specs.Writing.{writer_records}
 use Rattle.cq_kept_session.specs.Bases.{based, fresh, read}
 use Rattle.cq_kept_session.proofs.Bases.{with_chunk}
 use Rattle.cq_kept_base.proofs.Written.{chunk_is_fed, some_chunk}
@@ -34,8 +34,8 @@ loop-alloc-preserved g c =
           let so_far = i.added header is in
           let one = chunk_is_fed c.args.store.now _ _ so_far.0 _ c.store_fits.ensures so_far.2 chunk in
           let is_fed : fed c.deref.result.now so_far.0 ≡ Ok one.next = ap (λ (l : List ℕ). fed l so_far.0) c.deref.ensures.value ∙ one.is in
-          let begun : read fresh (joined (base_records c.loop-alloc.journal c.loop-alloc.base) ++ []) ≡ based [] (Some header) so_far.0 =
-          ap (λ (l : List ℕ). read fresh l) (append-nil (joined (base_records c.loop-alloc.journal c.loop-alloc.base))) ∙ so_far.1 in
+          let begun : read fresh (joined (writer_records c.loop-alloc.journal c.loop-alloc.base) ++ []) ≡ based [] (Some header) so_far.0 =
+          ap (λ (l : List ℕ). read fresh l) (append-nil (joined (writer_records c.loop-alloc.journal c.loop-alloc.base))) ∙ so_far.1 in
           (one.next, c.in_ok-add_piece.ensures.added (Some header) so_far.0 (based [] (Some header) one.next) begun (with_chunk c.deref.result.now header so_far.0 one.next is_fed), one.passed);
     }
 

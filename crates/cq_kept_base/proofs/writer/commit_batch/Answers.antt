@@ -1,9 +1,6 @@
--- The record goes to the region that grows, or to one more.
-use Rattle.cq_journal.proofs.Copies.{rests_on, rests_self}
-use Rattle.cq_kept_base.proofs.records.add_record.Goals as goal
-
-pub returns-in_err-batch-clause-rests : goal.returns-in_err-batch-clause-rests
-returns-in_err-batch-clause-rests g c = rests_self c.args.journal.now (λ f. g.met.D.Device.only_now c.args.journal.now.root.log.device.device f) c.requires.journal.regions
+-- The batch goes to the region that grows, or to one more.
+use Rattle.cq_journal.proofs.Copies.{rests_on}
+use Rattle.cq_kept_base.proofs.writer.commit_batch.Goals as goal
 
 pub returns-in_err-widen_base-clause-rests : goal.returns-in_err-widen_base-clause-rests
 returns-in_err-widen_base-clause-rests g c = rests_on c.args.journal.now c.add_batch.new.journal c.widen_base.new.journal c.add_batch.ensures.rests c.widen_base.ensures.rests

@@ -1,4 +1,0 @@
-use Rattle.cq_kept_base.proofs.records.begin_base.Goals as goal
-
-pub returns-clause-rests : goal.returns-clause-rests
-returns-clause-rests g c = let b = c.begin_base.ensures in record { half = b.lengths.0; len = b.lengths.1; records = b.records; honest = b.honest; moments = b.any_moment; intact = b.intact; stays = b.stays; later = b.later }
