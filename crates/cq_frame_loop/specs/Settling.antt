@@ -1,5 +1,5 @@
 -- What answering the frames of an input does where answers are settled before they are told, by its answer.
-use Rattle.std.specs.Prelude.{◌≡◌, ℕ, ◌≤◌, ◌⊎◌, Bool, true, false, List, [], length, Option, Result, Ok, Err}
+use Rattle.std.specs.Prelude.{◌≡◌, ℕ, ◌≤◌, ◌⊎◌, Bool, true, false, List, [], ◌++◌, length, Option, Result, Ok, Err}
 use Rattle.std.specs.Io.KnownBytes.{IsAtEnd}
 use Rattle.cq_base.specs.Relations.{IsPrefix}
 use Rattle.cq_frame_loop.specs.Cutting.{frames_of}
@@ -13,13 +13,18 @@ use Rattle.cq_lines.specs.declared.text.TheConstants.{BYTES_LIMIT}
 abbrev pub Stops : Type 0 → Type 1
 Stops S = S → S → Type 0
 
--- The first ones of these frames were answered, up to some state, and a fault left that one of it. A prefix of what was told is the output.
-pub record StopsFront {S : Type 0} (answers : Relation S) (stops : Stops S) (first : S) (frames : List (Option (List ℕ))) (output : List ℕ) (left : S) : Type 0 where
+-- The first ones of these frames were answered, and all of that was settled. The output is a prefix of what was told of these. More were
+-- answered then, of which nothing is told, up to some state, and a fault left that one of it.
+pub record StopsFront {S : Type 0} (answers : Relation S) (stops : Stops S) (is_settled : S → Type 0) (first : S) (frames : List (Option (List ℕ))) (output : List ℕ) (left : S) : Type 0 where
   pub steps : List (Step S)
-  pub last : S
-  pub chain : IsChain answers first steps last
-  pub front : IsPrefix (frames_in steps) frames
+  pub mid : S
+  pub chain : IsChain answers first steps mid
+  pub settled : is_settled mid
   pub prefix : IsPrefix output (text_in steps)
+  pub later : List (Step S)
+  pub last : S
+  pub went_on : IsChain answers mid later last
+  pub front : IsPrefix (frames_in steps ++ frames_in later) frames
   pub stopped : stops last left
 
 -- The input was read, and the reader has these bytes left, if that is known. The output was written, and the handler came from the first
@@ -28,11 +33,11 @@ abbrev pub SettlesInput : {S : Type 0} → Relation S → Stops S → (S → Typ
 SettlesInput answers stops is_settled (Ok _) first last input left output = IsAtEnd left × (AnswersAll answers first (frames_of input) output last × is_settled last)
 SettlesInput answers stops is_settled (Err (Loop NoMemory)) first last input left output = (input ≡ []) × ((output ≡ []) × (first ≡ last))
 SettlesInput answers stops is_settled (Err (Loop ReadFailed)) first last input left output = AnswersAll answers first (frames_of input) output last × is_settled last
-SettlesInput answers stops is_settled (Err (Loop WriteFailed)) first last input left output = StopsFront answers stops first (frames_of input) output last
-SettlesInput answers stops is_settled (Err (Loop Unanswered)) first last input left output = StopsFront answers stops first (frames_of input) output last
-SettlesInput answers stops is_settled (Err (Loop Interrupted)) first last input left output = StopsFront answers stops first (frames_of input) output last
+SettlesInput answers stops is_settled (Err (Loop WriteFailed)) first last input left output = StopsFront answers stops is_settled first (frames_of input) output last
+SettlesInput answers stops is_settled (Err (Loop Unanswered)) first last input left output = StopsFront answers stops is_settled first (frames_of input) output last
+SettlesInput answers stops is_settled (Err (Loop Interrupted)) first last input left output = StopsFront answers stops is_settled first (frames_of input) output last
 SettlesInput answers stops is_settled (Err (Loop TooManyBytes)) first last input left output = (BYTES_LIMIT ≤ length input) × (AnswersAll answers first (frames_of input) output last × is_settled last)
-SettlesInput answers stops is_settled (Err Unsettled) first last input left output = StopsFront answers stops first (frames_of input) output last
+SettlesInput answers stops is_settled (Err Unsettled) first last input left output = StopsFront answers stops is_settled first (frames_of input) output last
 
 -- How the reader is left: whether it has failed.
 abbrev pub LeavesSettledReader : Result (Unit {0}) SettledFault → Bool → Type 0

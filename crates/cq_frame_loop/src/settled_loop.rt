@@ -3,9 +3,9 @@ ghost use Rattle.std.specs.Prelude.{◌≡◌, ◌+◌, ◌≤◌, ◌<◌, ◌+
 ghost use Rattle.std.specs.Io.KnownBytes.{Appends, Consumes};
 ghost use Rattle.cq_frames.specs.declared.frame.TheConstants.{FRAME_LIMIT};
 ghost use Rattle.cq_frame_loop.specs.Cutting.{frames_behind};
-ghost use Rattle.cq_frame_loop.specs.Settling.{LeavesSettledReader, LeavesSettledWriter, SettlesInput};
+ghost use Rattle.cq_frame_loop.specs.Settling.{LeavesSettledReader, LeavesSettledWriter, SettlesInput, StopsFront};
 ghost use Rattle.cq_frame_loop.specs.within.Advances.{Advances, AdvancesTo};
-ghost use Rattle.cq_frame_loop.specs.within.Settled.{IsStop, StopsBehind};
+ghost use Rattle.cq_frame_loop.specs.within.Settled.{IsStop};
 
 use crate::buffer::{keep_last, read_behind, read_fault};
 use crate::fault::LoopFault;
@@ -38,7 +38,7 @@ fn answer_each<H: SettlingHandler, W: Sink>(
     ensures answers { IfOk result (λ left. (output : List ℕ) × Appends (W.contents writer.old) (W.contents writer.new) output
         × AdvancesTo H.answers handler.old count bytes.now output handler.new left.1 left.0) }
     ensures stops { IfErr result (λ fault. (output : List ℕ) × Appends (W.contents writer.old) (W.contents writer.new) output
-        × StopsBehind H.answers H.stops handler.old (frames_behind count bytes.now) [] output handler.new × IsStop fault (W.has_failed writer.new)) }
+        × StopsFront H.answers H.stops H.is_settled handler.old (frames_behind count bytes.now) output handler.new × IsStop fault (W.has_failed writer.new)) }
     ensures nothing { OnOk result (out.new.items ≡ []) }
     ensures empty { OnOk result (end.new.items ≡ []) }
     ensures room { ANSWER_ROOM ≤ vec_capacity end.new }
@@ -73,7 +73,7 @@ fn answer_all<H: SettlingHandler, W: Sink>(
     ensures answers { IfOk result (λ left. (output : List ℕ) × Appends (W.contents writer.old) (W.contents writer.new) output
         × AdvancesTo H.answers handler.old count bytes.now output handler.new left.1 left.0) }
     ensures stops { IfErr result (λ fault. (output : List ℕ) × Appends (W.contents writer.old) (W.contents writer.new) output
-        × StopsBehind H.answers H.stops handler.old (frames_behind count bytes.now) [] output handler.new × IsStop fault (W.has_failed writer.new)) }
+        × StopsFront H.answers H.stops H.is_settled handler.old (frames_behind count bytes.now) output handler.new × IsStop fault (W.has_failed writer.new)) }
     ensures flushed { OnOk result (W.has_flushed writer.new ≡ true) }
     ensures nothing { OnOk result (out.new.items ≡ []) }
     ensures empty { OnOk result (end.new.items ≡ []) }
@@ -112,7 +112,7 @@ fn answer_buffer<H: SettlingHandler, W: Sink>(
         × (frames_behind left.1 (take left.0 buffer.new) ≡ [])) }
     ensures short { IfOk result (λ left. left.0 < FRAME_LIMIT + 4) }
     ensures stops { IfErr result (λ fault. (output : List ℕ) × Appends (W.contents writer.old) (W.contents writer.new) output
-        × StopsBehind H.answers H.stops handler.old (frames_behind count (take len buffer.old)) [] output handler.new × IsStop fault (W.has_failed writer.new)) }
+        × StopsFront H.answers H.stops H.is_settled handler.old (frames_behind count (take len buffer.old)) output handler.new × IsStop fault (W.has_failed writer.new)) }
     ensures flushed { OnOk result (W.has_flushed writer.new ≡ true) }
     ensures nothing { OnOk result (out.new.items ≡ []) }
     ensures empty { OnOk result (end.new.items ≡ []) }
@@ -172,7 +172,7 @@ fn answer_with<H: SettlingHandler, R: Source, W: Sink>(
 
 /// Reads frames, has the handler answer each, and writes the answers, as `answer_frames` does. But what one read brings is answered, then
 /// all of it is settled at once, and then it is written and flushed, before more is read: so what comes meanwhile is settled together.
-/// Nothing is written that isn't settled. What is told before gets much, or wants memory, is settled and written earlier.
+/// Nothing is written that isn't settled, whatever fault ends it. What is told before gets much, or wants memory, is settled and written earlier.
 pub fn answer_settled_frames<H: SettlingHandler, R: Source, W: Sink>(
     alloc: Global,
     handler: &mut H,

@@ -1,7 +1,7 @@
 //! Writing what is told, once all that it rests on is settled.
 ghost use Rattle.std.specs.Prelude.{◌≡◌, ◌++◌, ◌≤◌, ℕ, List, [], ◌∷◌, true, option_map, vec_capacity, OnOk, IfErr};
 ghost use Rattle.std.specs.Io.KnownBytes.{Appends};
-ghost use Rattle.cq_frame_loop.specs.within.Settled.{IsStop, Rested, StopsBehind, StopsWriting};
+ghost use Rattle.cq_frame_loop.specs.within.Settled.{IsStop, Rested, StopsBehind, StopsWriting, WaitsOrSettles};
 ghost use Rattle.cq_frame_loop.specs.within.Writes.{IsWriteFault, LeavesAt, Takes};
 
 use crate::fault::LoopFault;
@@ -43,7 +43,7 @@ fn settle_and_write<H: SettlingHandler, W: Sink>(
     ensures rests { OnOk result (H.rests handler.old handler.new) }
     ensures writes { OnOk result (Appends (W.contents writer.old) (W.contents writer.new) (out.old.items ++ end.old.items)) }
     ensures stops { IfErr result (λ fault. (output : List ℕ) × Appends (W.contents writer.old) (W.contents writer.new) output
-        × StopsWriting H.rests H.stops handler.old (out.old.items ++ end.old.items) output handler.new × IsStop fault (W.has_failed writer.new)) }
+        × StopsWriting H.rests H.stops H.is_settled handler.old (out.old.items ++ end.old.items) output handler.new × IsStop fault (W.has_failed writer.new)) }
     ensures nothing { OnOk result (out.new.items ≡ []) }
     ensures empty { OnOk result (end.new.items ≡ []) }
     ensures capacity { vec_capacity end.new ≡ vec_capacity end.old }
@@ -85,9 +85,9 @@ fn take_settled<H: SettlingHandler, W: Sink>(
     ensures ready { OnOk result (H.is_ready handler.new) }
     ensures settled { OnOk result (is_last ≡ true → H.is_settled handler.new × (out.new.items ≡ [])) }
     ensures rested { OnOk result (Rested H.rests handler.old handler.new) }
-    ensures writes { OnOk result ((output : List ℕ) × Appends (W.contents writer.old) (W.contents writer.new) output × (out.old.items ++ end.old.items ≡ output ++ out.new.items)) }
+    ensures writes { OnOk result (WaitsOrSettles (W.contents writer.old) (W.contents writer.new) (out.old.items ++ end.old.items) out.new.items (H.is_settled handler.new)) }
     ensures stops { IfErr result (λ fault. (output : List ℕ) × Appends (W.contents writer.old) (W.contents writer.new) output
-        × StopsWriting H.rests H.stops handler.old (out.old.items ++ end.old.items) output handler.new × IsStop fault (W.has_failed writer.new)) }
+        × StopsWriting H.rests H.stops H.is_settled handler.old (out.old.items ++ end.old.items) output handler.new × IsStop fault (W.has_failed writer.new)) }
     ensures empty { OnOk result (end.new.items ≡ []) }
     ensures capacity { vec_capacity end.new ≡ vec_capacity end.old }
 {
@@ -112,10 +112,10 @@ pub(crate) fn answer_settled<H: SettlingHandler, W: Sink>(
     requires room { ANSWER_ROOM ≤ vec_capacity end.old }
     ensures ready { OnOk result (H.is_ready handler.new) }
     ensures settled { OnOk result (is_last ≡ true → H.is_settled handler.new × (out.new.items ≡ [])) }
-    ensures answers { OnOk result ((text : List ℕ) × (output : List ℕ) × H.answers handler.old (option_map (λ bytes. bytes.now) frame.entry) text handler.new
-        × Appends (W.contents writer.old) (W.contents writer.new) output × (out.old.items ++ text ≡ output ++ out.new.items)) }
+    ensures answers { OnOk result ((text : List ℕ) × H.answers handler.old (option_map (λ bytes. bytes.now) frame.entry) text handler.new
+        × WaitsOrSettles (W.contents writer.old) (W.contents writer.new) (out.old.items ++ text) out.new.items (H.is_settled handler.new)) }
     ensures stops { IfErr result (λ fault. (output : List ℕ) × Appends (W.contents writer.old) (W.contents writer.new) output
-        × StopsBehind H.answers H.stops handler.old (option_map (λ bytes. bytes.now) frame.entry ∷ []) out.old.items output handler.new × IsStop fault (W.has_failed writer.new)) }
+        × StopsBehind H.answers H.stops H.is_settled handler.old (option_map (λ bytes. bytes.now) frame.entry ∷ []) out.old.items output handler.new × IsStop fault (W.has_failed writer.new)) }
     ensures empty { OnOk result (end.new.items ≡ []) }
     ensures room { ANSWER_ROOM ≤ vec_capacity end.new }
 {

@@ -8,6 +8,6 @@ returns-in-Err-flush_all-clause-stops g c =
     let told = c.in-Ok.ensures.answers in (
       told.0,
       Appends-kept _ _ _ told.0 told.1 c.flush_all.ensures.kept,
-      stops_told g.H.SettlingHandler.answers g.H.SettlingHandler.stops g.met.H.SettlingHandler.stops_none c.args.handler.now c.answer_each.new.handler c.args.count c.in-Ok.left.1 c.args.bytes.now told.0 _ told.2.advances,
+      stops_told g.H.SettlingHandler.answers g.H.SettlingHandler.stops g.H.SettlingHandler.is_settled g.met.H.SettlingHandler.stops_none c.args.handler.now c.answer_each.new.handler c.args.count c.in-Ok.left.1 c.args.bytes.now told.0 _ c.in-Ok.ensures.settled told.2.advances,
       write_stop c.in-Err-flush_all.fault _ _ c.in-Err-flush_all.ensures.kind c.in-Err-flush_all.ensures.leaves,
     )

@@ -1,14 +1,13 @@
 -- One frame more is answered, or a fault comes at it; behind the last one all is settled and written.
-use Rattle.std.proofs.Common.{◌≡◌, inl, inr, ◌-◌, ℕ, List, [], ◌∷◌, ◌++◌, length, take, drop, Bor, option_map, sym, ap, ◌∙◌, subst, arith, append-nil}
+use Rattle.std.proofs.Common.{◌≡◌, inl, ◌-◌, ℕ, List, [], ◌++◌, length, take, drop, Bor, option_map, sym, ap, ◌∙◌, subst, arith, append-nil}
 use Rattle.std.proofs.lemmas.Result.{err_from_is_err_and}
 use Rattle.std.proofs.lemmas.List.Prefix.{end_rest}
 use Rattle.std.proofs.KnownBytes.{Appends-nil, Appends-trans}
 use Rattle.cq_frame_loop.specs.Cutting.{frames_behind}
 use Rattle.cq_frame_loop.specs.within.Advances.{Advances}
 use Rattle.cq_frame_loop.proofs.Cuts.{nothing_passed, parts, parts_on, rest_fits, unfinished_behind}
-use Rattle.cq_frame_loop.proofs.Passing.{told_on}
-use Rattle.cq_frame_loop.proofs.Advancing.{behind_passed, behind_frame, told_same, goes_on}
-use Rattle.cq_frame_loop.proofs.Settled.{last_or_more, settled_end, stops_at}
+use Rattle.cq_frame_loop.proofs.Advancing.{told_same}
+use Rattle.cq_frame_loop.proofs.Settled.{last_or_more, passes_none, proceeded, proceeds_first, proceeds_on, settled_end, stops_at}
 use Rattle.cq_frame_loop.proofs.settled_loop.answer_each.Goals as goal
 
 pub loop-frame-init : goal.loop-frame-init
@@ -19,8 +18,7 @@ loop-frame-init g c =
     let is_more = c.pass-passed.ensures.more in (
       [],
       Appends-nil _,
-      told_same g.H.SettlingHandler.answers c.args.handler.now c.args.handler.now c.args.count more c.args.bytes.now [] c.args.out.now.items rest c.requires.nothing
-          (behind_passed g.H.SettlingHandler.answers c.args.handler.now c.args.count more c.args.bytes.now rest is_rest is_more),
+      proceeds_first g.H.SettlingHandler.answers g.H.SettlingHandler.is_settled c.args.handler.now c.args.count more c.args.bytes.now c.args.out.now.items rest c.requires.settled c.requires.nothing is_rest is_more,
       λ some. nothing_passed c.args.count more c.args.bytes.now rest is_rest is_more some,
       (take c.args.count c.args.bytes.now, parts c.args.count c.args.bytes.now rest is_rest),
       c.requires.empty,
@@ -33,16 +31,15 @@ pub returns-in_err-answer_settled-clause-stops : goal.returns-in_err-answer_sett
 returns-in_err-answer_settled-clause-stops g c =
     let before = c.loop-frame.invariant in
     let rest = c.loop-frame.rest.now in
-    let told = before.0 ++ c.loop-frame.out.items in
     let none : c.loop-frame.passed ≡ 0 = before.3 (omega (arith, c.in-Some.ensures.long.1)) in
-    let now = subst (λ n. Advances g.H.SettlingHandler.answers c.args.handler.now c.args.count c.args.bytes.now told c.loop-frame.handler n rest) none before.2 in
+    let now = passes_none g.H.SettlingHandler.answers g.H.SettlingHandler.is_settled c.args.handler.now c.loop-frame.handler c.args.count c.loop-frame.passed 0 c.args.bytes.now before.0 c.loop-frame.out.items rest none before.2 in
     let failed = c.in_err-answer_settled.ensures.stops in
     let frame = option_map {T = Bor (List ℕ)} {U = List ℕ} (λ bytes. bytes.now) c.in-Some.frame in
     let fault = err_from_is_err_and c.from_residual.result c.from_residual.ensures.1 in
     rw (fault.1, fault.2) (
       before.0 ++ failed.0,
       Appends-trans _ _ _ before.0 failed.0 before.1 failed.1,
-      stops_at g.H.SettlingHandler.answers g.H.SettlingHandler.stops c.args.handler.now c.loop-frame.handler c.answer_settled.new.handler c.args.count c.in-Some.size c.args.bytes.now before.0 c.loop-frame.out.items rest failed.0 frame now c.in-Some.ensures.begins failed.2,
+      stops_at g.H.SettlingHandler.answers g.H.SettlingHandler.stops g.H.SettlingHandler.is_settled c.args.handler.now c.loop-frame.handler c.answer_settled.new.handler c.args.count c.in-Some.size c.args.bytes.now before.0 c.loop-frame.out.items rest failed.0 frame now c.in-Some.ensures.begins failed.2,
       failed.3,
     )
 
@@ -56,15 +53,13 @@ loop-frame-preserved g c =
     let is_rest = c.pass-more.ensures.rest in
     let is_more = c.pass-more.ensures.more in
     let none : c.loop-frame.passed ≡ 0 = before.3 (omega (arith, c.in-Some.ensures.long.1)) in
-    let now = subst (λ n. Advances g.H.SettlingHandler.answers c.args.handler.now c.args.count c.args.bytes.now (before.0 ++ out) c.loop-frame.handler n rest) none before.2 in
+    let now = passes_none g.H.SettlingHandler.answers g.H.SettlingHandler.is_settled c.args.handler.now c.loop-frame.handler c.args.count c.loop-frame.passed 0 c.args.bytes.now before.0 out rest none before.2 in
     let told = c.in_ok-answer_settled.ensures.answers in
     let frame = option_map {T = Bor (List ℕ)} {U = List ℕ} (λ bytes. bytes.now) c.in-Some.frame in
-    let one = behind_frame g.H.SettlingHandler.answers c.loop-frame.handler c.answer_settled.new.handler frame told.0 rest later c.in-Some.size more c.in-Some.ensures.begins told.2 is_rest is_more in
-    let all = goes_on g.H.SettlingHandler.answers c.args.handler.now c.loop-frame.handler c.answer_settled.new.handler c.args.count 0 more c.args.bytes.now (before.0 ++ out) rest told.0 later now one in (
-      before.0 ++ told.1,
-      Appends-trans _ _ _ before.0 told.1 before.1 told.3,
-      told_same g.H.SettlingHandler.answers c.args.handler.now c.answer_settled.new.handler c.args.count more c.args.bytes.now ((before.0 ++ out) ++ told.0) ((before.0 ++ told.1) ++ c.answer_settled.new.out.items) later
-          (told_on before.0 out told.0 told.1 c.answer_settled.new.out.items told.4) all,
+    let all = proceeds_on g.H.SettlingHandler.answers g.H.SettlingHandler.is_settled c.args.handler.now c.loop-frame.handler c.answer_settled.new.handler c.args.count c.in-Some.size more c.args.bytes.now before.0 out c.answer_settled.new.out.items rest later told.0 frame _ _ now c.in-Some.ensures.begins told.1 is_rest is_more told.2 in (
+      before.0 ++ all.0,
+      Appends-trans _ _ _ before.0 all.0 before.1 all.1,
+      all.2,
       λ some. nothing_passed c.in-Some.size more rest later is_rest is_more some,
       (before.4.0 ++ take c.in-Some.size rest, parts_on c.in-Some.size c.args.bytes.now before.4.0 rest later before.4.1 is_rest),
       c.in_ok-answer_settled.ensures.empty,
@@ -80,7 +75,8 @@ returns-clause-answers g c =
     let rest = c.loop-frame.rest.now in
     let ended = settled_end g.H.SettlingHandler.answers (g.H.SettlingHandler.is_settled c.loop-frame.handler) c.loop-frame.out.items rest before.8 c.in_default.ensures.unfinished in
     let is : drop (length bytes - length rest) bytes ≡ rest = end_rest bytes rest before.4.0 before.4.1 in
-    let all = told_same g.H.SettlingHandler.answers c.args.handler.now c.loop-frame.handler c.args.count c.loop-frame.passed bytes (before.0 ++ c.loop-frame.out.items) before.0 rest (sym (ap (λ xs. before.0 ++ xs) ended.1 ∙ append-nil before.0)) before.2 in (
+    let all = told_same g.H.SettlingHandler.answers c.args.handler.now c.loop-frame.handler c.args.count c.loop-frame.passed bytes (before.0 ++ c.loop-frame.out.items) before.0 rest (sym (ap (λ xs. before.0 ++ xs) ended.1 ∙ append-nil before.0))
+    (proceeded g.H.SettlingHandler.answers g.H.SettlingHandler.is_settled c.args.handler.now c.loop-frame.handler c.args.count c.loop-frame.passed bytes before.0 c.loop-frame.out.items rest before.2) in (
       before.0,
       before.1,
       record {

@@ -1,10 +1,10 @@
 -- By what was read before, and how the last read went.
-use Rattle.std.proofs.Common.{◌≡◌, false, ◌<◌, ◌+◌, [], ◌++◌, take, drop, subst, inl, inr, refl, length, length-append, length-take, length-drop, arith}
+use Rattle.std.proofs.Common.{◌<◌, ◌+◌, [], ◌++◌, take, drop, subst, inl, inr, refl, length, length-append, length-take, length-drop, arith}
 use Rattle.std.proofs.lemmas.Result.{err_from_is_err_and}
 use Rattle.std.proofs.KnownBytes.{Consumes-nil, Consumes-trans, Consumes-kept, Appends-nil, Appends-trans, Appends-kept}
 use Rattle.cq_frame_loop.specs.Cutting.{frames_behind}
 use Rattle.cq_frame_loop.specs.within.Advances.{Advances}
-use Rattle.cq_frame_loop.specs.within.Settled.{StopsBehind}
+use Rattle.cq_frame_loop.specs.Settling.{StopsFront}
 use Rattle.cq_frame_loop.proofs.Cuts.{grown, unfinished_nothing}
 use Rattle.cq_frame_loop.proofs.Advancing.{at_start, with_more, goes_on}
 use Rattle.cq_frame_loop.proofs.Endings.{Consumes-nothing, all_answered}
@@ -49,7 +49,7 @@ returns-in_err-left-in-Ok-clause-answers g c =
     let failed = c.in_err-left-in-Ok.ensures.stops in
     let is = grown c.loop.len c.in-Ok.count c.loop.buffer c.read_behind.new.buffer c.read_behind.ensures.front in
     let one = c.in_err-left-in-Ok.field-0.0 in
-    let behind = subst (λ xs. StopsBehind g.H.SettlingHandler.answers g.H.SettlingHandler.stops c.loop.handler (frames_behind c.loop.passed xs) [] failed.0 c.answer_buffer.new.handler) is failed.2 in
+    let behind = subst (λ xs. StopsFront g.H.SettlingHandler.answers g.H.SettlingHandler.stops g.H.SettlingHandler.is_settled c.loop.handler (frames_behind c.loop.passed xs) failed.0 c.answer_buffer.new.handler) is failed.2 in
     let fault = err_from_is_err_and c.from_residual.result c.from_residual.ensures.1 in
     rw (fault.1, fault.2) (
       read.0 ++ chunk,
@@ -57,7 +57,7 @@ returns-in_err-left-in-Ok-clause-answers g c =
       Consumes-trans _ _ _ read.0 chunk read.2 c.in-Ok.ensures.bytes.0,
       Appends-trans _ _ _ read.1 failed.0 read.3 failed.1,
       stopped g.H.SettlingHandler.answers g.H.SettlingHandler.stops g.H.SettlingHandler.is_settled one c.args.handler.now c.answer_buffer.new.handler (read.0 ++ chunk) (read.1 ++ failed.0) _ _ failed.3
-          (stops_in_rest g.H.SettlingHandler.answers g.H.SettlingHandler.stops c.args.handler.now c.loop.handler c.answer_buffer.new.handler 0 c.loop.passed (read.0 ++ chunk) read.1 (unread ++ chunk) failed.0
+          (stops_in_rest g.H.SettlingHandler.answers g.H.SettlingHandler.stops g.H.SettlingHandler.is_settled c.args.handler.now c.loop.handler c.answer_buffer.new.handler 0 c.loop.passed (read.0 ++ chunk) read.1 (unread ++ chunk) failed.0
           (with_more g.H.SettlingHandler.answers c.args.handler.now c.loop.handler 0 c.loop.passed read.0 read.1 unread chunk read.4) behind),
       stop_leaves one (read.0 ++ chunk) _ _ failed.3,
     )
@@ -126,6 +126,6 @@ returns-in-Err-flush_all-clause-answers g c =
       read.1,
       input,
       Appends-kept _ _ _ read.1 read.3 c.flush_all.ensures.kept,
-      end_stops g.H.SettlingHandler.answers g.H.SettlingHandler.stops g.H.SettlingHandler.is_settled g.met.H.SettlingHandler.stops_none c.in-Err-flush_all.fault c.args.handler.now c.loop.handler read.0 read.1 _ c.in-Err-flush_all.ensures.kind all,
+      end_stops g.H.SettlingHandler.answers g.H.SettlingHandler.stops g.H.SettlingHandler.is_settled g.met.H.SettlingHandler.stops_none c.in-Err-flush_all.fault c.args.handler.now c.loop.handler read.0 read.1 _ c.in-Err-flush_all.ensures.kind all read.13,
       end_leaves_settled c.in-Err-flush_all.fault read.0 _ _ c.in-Err-flush_all.ensures.kind c.in-Err-flush_all.ensures.leaves,
     )

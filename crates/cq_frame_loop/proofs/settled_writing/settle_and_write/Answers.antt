@@ -1,5 +1,5 @@
 -- A fault came as something was settled, or as it was written.
-use Rattle.std.proofs.Common.{◌≡◌, [], ◌++◌, inl, inr, refl, sym, ◌∙◌, ap, subst, append-nil}
+use Rattle.std.proofs.Common.{[], inl, inr, refl, sym, ◌∙◌, subst, append-nil}
 use Rattle.std.specs.Io.KnownBytes.{Appends}
 use Rattle.std.proofs.KnownBytes.{Appends-nil}
 use Rattle.cq_frame_loop.proofs.Settled.{nothing_of, write_stop}
@@ -15,10 +15,10 @@ returns-in-Err-write_settled-clause-stops g c =
     let took = c.in-Err-write_settled.ensures.takes in (
       took.0,
       took.1,
-      record { mid = c.settle.new.self; rested = inr c.in-Ok.ensures.rests; stopped = g.met.H.SettlingHandler.stops_none c.settle.new.self; prefix = took.2.1 },
+      record { mid = c.settle.new.self; rested = inr c.in-Ok.ensures.rests; settled = inr c.in-Ok.ensures.settled; stopped = g.met.H.SettlingHandler.stops_none c.settle.new.self; prefix = took.2.1 },
       write_stop c.in-Err-write_settled.fault _ _ took.2.0 c.in-Err-write_settled.ensures.leaves,
     )
 
 pub returns-in-Err-clause-stops : goal.returns-in-Err-clause-stops
 returns-in-Err-clause-stops g c =
-    ([], Appends-nil _, record { mid = c.args.handler.now; rested = inl refl; stopped = c.in-Err.ensures.stopped; prefix = nothing_of _ }, tt)
+    ([], Appends-nil _, record { mid = c.args.handler.now; rested = inl refl; settled = inl refl; stopped = c.in-Err.ensures.stopped; prefix = nothing_of _ }, tt)
