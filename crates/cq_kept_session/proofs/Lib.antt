@@ -11,4 +11,5 @@ mod Restored
 mod Rewritten
 mod Runs
 mod Stages
+mod Stopped
 mod Written

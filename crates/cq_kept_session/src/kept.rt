@@ -64,6 +64,7 @@ impl<D: Device> KeptSession<D> {
             × Appends (W.contents writer.old) (W.contents writer.new) output
             × IsPrefix (told_text self.old bytes ++ output) (told_text self.new (bytes ++ as_kept chunk.now))
             × OnOk result (told_text self.new (bytes ++ as_kept chunk.now) ≡ told_text self.old bytes ++ output)) }
+        ensures journal { OnKept result (IsJournal (session_journal self.new)) }
         ensures not_told { OnNotKept result (writer.new ≡ writer.old) }
         ensures flushed { OnOk result (W.has_flushed writer.new ≡ true) }
         ensures write_failed { result ≡ Err (NotTold WriteFailed) → W.has_failed writer.new ≡ true }
@@ -144,6 +145,7 @@ impl<D: Device> KeptSession<D> {
             × Appends (W.contents writer.old) (W.contents writer.new) output
             × IsPrefix (told_text self.old bytes ++ output) (told_text self.new (bytes ++ chunk.now))
             × OnOk result (told_text self.new (bytes ++ chunk.now) ≡ told_text self.old bytes ++ output)) }
+        ensures journal { OnKept result (IsJournal (session_journal self.new)) }
         ensures not_told { OnNotKept result (writer.new ≡ writer.old) }
         ensures flushed { OnOk result (W.has_flushed writer.new ≡ true) }
         ensures write_failed { result ≡ Err (NotTold WriteFailed) → W.has_failed writer.new ≡ true }

@@ -235,6 +235,8 @@ impl<D: Device> KeptSession<D> {
         ensures kept { OnOk result (IsKept self.new) }
         ensures size { session_size self.new ≡ session_size self.old }
 
+        ensures honest { IsTrue (D.is_honest (session_device self.new)) → IsTrue (D.is_honest (session_device self.old)) }
+
         // It writes nothing, and what is kept stands for the same.
         ensures serves { OnOk result ((contents : Option (List ℕ)) → Serves self.old self.new contents contents []) }
     {

@@ -1,10 +1,10 @@
 //! How a session takes the lines of a reader.
-ghost use Rattle.std.specs.Prelude.{◌≡◌, ◌⊎◌, ◌≤◌, ◌+◌, ◌++◌, [], ◌∷◌, ℕ, List, length, true, false, Err, IsTrue, OnOk};
+ghost use Rattle.std.specs.Prelude.{◌≡◌, ◌⊎◌, ◌≤◌, ◌+◌, ◌++◌, [], ◌∷◌, ℕ, List, length, true, false, Err, IsTrue, OnErr, OnOk};
 ghost use Rattle.std.specs.Io.KnownBytes.{Consumes, IsAtEnd};
 ghost use Rattle.cq_lines.specs.declared.fault.ScriptFault.TheVariants.{ReadFailed};
 ghost use Rattle.cq_lines.specs.declared.limits.TheConstants.{LINE_LIMIT};
 ghost use Rattle.cq_lines.specs.declared.text.TheConstants.{CHUNK_SIZE};
-ghost use Rattle.cq_kept_session.specs.Served.{IsEnd, Serves};
+ghost use Rattle.cq_kept_session.specs.Served.{IsEnd, Serves, StopsServing};
 ghost use Rattle.cq_kept_session.specs.Texts.{as_kept};
 
 use crate::{KeptSession, ServeFault, TakeFault};
@@ -41,6 +41,10 @@ impl<D: Device> KeptSession<D> {
         ensures size { session_size self.new ≡ session_size self.old }
         ensures serves { OnOk result ((input : List ℕ) × (end : List ℕ) × Consumes (R.remaining reader.old) (R.remaining reader.new) input × IsAtEnd (R.remaining reader.new) × IsEnd end
             × Serves self.old self.new (W.contents writer.old) (W.contents writer.new) (as_kept (input ++ end))) }
+
+        // Whatever fault ends it, what was written of lines rests on lines that are kept.
+        ensures stops { OnErr result ((input : List ℕ) × (end : List ℕ) × Consumes (R.remaining reader.old) (R.remaining reader.new) input × IsEnd end
+            × StopsServing self.old self.new (W.contents writer.old) (W.contents writer.new) (as_kept (input ++ end))) }
         ensures reader_sound { OnOk result (R.has_failed reader.new ≡ false) }
     {
         let mut partial = Vec::new(self.alloc);
@@ -80,6 +84,7 @@ impl<D: Device> KeptSession<D> {
         ensures partial { OnOk result (length partial.new.items ≤ LINE_LIMIT) }
         ensures serves { OnOk result ((done : List ℕ) × (done ++ partial.new.items ≡ partial.old.items ++ chunk.now)
             × Serves self.old self.new (W.contents writer.old) (W.contents writer.new) (as_kept done)) }
+        ensures stops { OnErr result (StopsServing self.old self.new (W.contents writer.old) (W.contents writer.new) (as_kept (partial.old.items ++ chunk.now))) }
     {
         let (ended, rest) = cut_behind_lines(chunk);
         self.take_more(partial, ended, 0, writer)?;
@@ -104,6 +109,7 @@ impl<D: Device> KeptSession<D> {
         ensures partial { OnOk result (length partial.new.items ≤ LINE_LIMIT) }
         ensures serves { OnOk result ((done : List ℕ) × (done ++ partial.new.items ≡ partial.old.items ++ bytes.now)
             × Serves self.old self.new (W.contents writer.old) (W.contents writer.new) (as_kept done)) }
+        ensures stops { OnErr result (StopsServing self.old self.new (W.contents writer.old) (W.contents writer.new) (as_kept (partial.old.items ++ bytes.now))) }
     {
         if bytes.is_empty() {
             return Ok(());
@@ -125,6 +131,7 @@ impl<D: Device> KeptSession<D> {
         ensures kept { OnOk result (IsKept self.new) }
         ensures size { session_size self.new ≡ session_size self.old }
         ensures serves { OnOk result ((end : List ℕ) × IsEnd end × Serves self.old self.new (W.contents writer.old) (W.contents writer.new) (as_kept (partial.old.items ++ end))) }
+        ensures stops { OnErr result (StopsServing self.old self.new (W.contents writer.old) (W.contents writer.new) (as_kept (partial.old.items ++ 10 ∷ []))) }
     {
         if partial.as_slice().is_empty() && self.ended {
             return Ok(());

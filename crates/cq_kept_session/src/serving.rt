@@ -1,9 +1,9 @@
 //! How a session takes lines while there is room, and refuses them where there is none.
-ghost use Rattle.std.specs.Prelude.{◌≡◌, ◌≤◌, ◌++◌, [], ◌∷◌, ℕ, List, true, length, Err, IfOk, IsTrue, OnOk, if◌then◌else◌};
+ghost use Rattle.std.specs.Prelude.{◌≡◌, ◌≤◌, ◌++◌, [], ◌∷◌, ℕ, List, true, length, Err, IfOk, IsTrue, OnErr, OnOk, if◌then◌else◌};
 ghost use Rattle.std.specs.Io.KnownBytes.{Appends};
 ghost use Rattle.cq_lines.specs.declared.fault.ScriptFault.TheVariants.{WriteFailed};
 ghost use Rattle.cq_records.specs.declared.frame.TheConstants.{TEXT_LIMIT};
-ghost use Rattle.cq_kept_session.specs.Served.{Serves, no_room_text};
+ghost use Rattle.cq_kept_session.specs.Served.{Refuses, Serves, StopsServing, no_room_text};
 ghost use Rattle.cq_kept_session.specs.Texts.{as_kept};
 
 use crate::class::{LineClass, class_of_line, class_of_lines};
@@ -29,6 +29,7 @@ impl<D: Device> KeptSession<D> {
         ensures kept { OnOk result (IsKept self.new) }
         ensures size { session_size self.new ≡ session_size self.old }
         ensures serves { OnOk result (Serves self.old self.new (W.contents writer.old) (W.contents writer.new) (as_kept lines.now)) }
+        ensures stops { OnErr result (StopsServing self.old self.new (W.contents writer.old) (W.contents writer.new) (as_kept lines.now)) }
     {
         if self.take_if_room(LineClass::Adds, lines, writer)? {
             return Ok(());
@@ -44,6 +45,7 @@ impl<D: Device> KeptSession<D> {
         ensures kept { OnOk result (IsKept self.new) }
         ensures size { session_size self.new ≡ session_size self.old }
         ensures serves { OnOk result (Serves self.old self.new (W.contents writer.old) (W.contents writer.new) (as_kept lines.now)) }
+        ensures stops { OnErr result (StopsServing self.old self.new (W.contents writer.old) (W.contents writer.new) (as_kept lines.now)) }
     {
         let class = class_of_lines(self.alloc, lines)?;
         if self.take_if_room(class, lines, writer)? {
@@ -65,6 +67,7 @@ impl<D: Device> KeptSession<D> {
         ensures kept { OnOk result (IsKept self.new) }
         ensures size { session_size self.new ≡ session_size self.old }
         ensures serves { OnOk result (Serves self.old self.new (W.contents writer.old) (W.contents writer.new) (as_kept lines.now)) }
+        ensures stops { OnErr result (StopsServing self.old self.new (W.contents writer.old) (W.contents writer.new) (as_kept lines.now)) }
     {
         self.rewrite_if_due(lines.len().saturating_add(HEAD_LENGTH))?;
         self.take_lines(lines, writer)
@@ -78,6 +81,7 @@ impl<D: Device> KeptSession<D> {
         ensures kept { OnOk result (IsKept self.new) }
         ensures size { session_size self.new ≡ session_size self.old }
         ensures serves { OnOk result (Serves self.old self.new (W.contents writer.old) (W.contents writer.new) (as_kept lines.now)) }
+        ensures stops { OnErr result (StopsServing self.old self.new (W.contents writer.old) (W.contents writer.new) (as_kept lines.now)) }
     {
         let mut rest = lines;
         while let Some((line, _)) = cut_line(rest) {
@@ -104,6 +108,7 @@ impl<D: Device> KeptSession<D> {
         ensures kept { OnOk result (IsKept self.new) }
         ensures size { session_size self.new ≡ session_size self.old }
         ensures serves { OnOk result (Serves self.old self.new (W.contents writer.old) (W.contents writer.new) (as_kept whole.now)) }
+        ensures stops { OnErr result (StopsServing self.old self.new (W.contents writer.old) (W.contents writer.new) (as_kept whole.now)) }
     {
         let class = class_of_line(self.alloc, line)?;
         if self.take_if_room(class, whole, writer)? {
@@ -127,6 +132,7 @@ impl<D: Device> KeptSession<D> {
         ensures kept { OnOk result (IsKept self.new) }
         ensures size { session_size self.new ≡ session_size self.old }
         ensures serves { IfOk result (λ is_taken. Serves self.old self.new (W.contents writer.old) (W.contents writer.new) (if is_taken then as_kept chunk.now else [])) }
+        ensures stops { OnErr result (StopsServing self.old self.new (W.contents writer.old) (W.contents writer.new) (as_kept chunk.now)) }
     {
         if !self.leaves_space(class, chunk.len()) {
             return Ok(false);
@@ -145,6 +151,7 @@ impl<D: Device> KeptSession<D> {
     /// Tells that there is no room for a line, and flushes that.
     fn refuse<W: Sink>(&self, writer: &mut W) -> Result<(), ScriptFault>
         ensures told { OnOk result ((number : ℕ) × Appends (W.contents writer.old) (W.contents writer.new) (no_room_text number)) }
+        ensures stops { OnErr result (Refuses (W.contents writer.old) (W.contents writer.new)) }
         ensures flushed { OnOk result (W.has_flushed writer.new ≡ true) }
     {
         let text = refused_line(

@@ -5,6 +5,7 @@ use Rattle.cq_records.specs.declared.frame.TheConstants.{TEXT_LIMIT}
 use Rattle.cq_kept_session.specs.Served.{Serves}
 use Rattle.cq_kept_session.specs.Texts.{as_kept}
 use Rattle.cq_kept_session.proofs.Pieces.{if_ok, no_bytes, serves_both, serves_none, kept_both}
+use Rattle.cq_kept_session.proofs.Stopped.{if_err, kept_parts, kept_two, on_err, stops_behind, stops_is, stops_more}
 use Rattle.cq_kept_session.proofs.kept.KeptSession.take_each.Goals as goal
 
 both_parts : (first later rest : List ℕ) (n : ℕ) → first ≡ take n rest → later ≡ drop n rest → first ++ later ≡ rest
@@ -50,3 +51,19 @@ returns-clause-serves g c = if_ok c.take_or_refuse-2.result c.take_or_refuse-2.e
     subst (λ (bytes : List ℕ). Serves c.args.self.now c.take_or_refuse-2.new.self (g.W.Write.contents c.args.writer.now) (g.W.Write.contents c.take_or_refuse-2.new.writer) bytes)
     (sym (kept_both w.0 rest) ∙ ap as_kept w.1)
     (serves_both _ _ _ _ _ _ (as_kept w.0) (as_kept rest) w.2 here))
+
+pub returns-in_err-take_or_refuse-clause-stops : goal.returns-in_err-take_or_refuse-clause-stops
+returns-in_err-take_or_refuse-clause-stops g c =
+    let w = c.loop-line.invariant.3 in
+    let whole = c.split_at.result.0.now in
+    let later = c.split_at.result.1.now in
+    let rest = c.loop-line.rest.now in
+    let parts : whole ++ later ≡ rest = both_parts whole later rest _ c.split_at.ensures.front c.split_at.ensures.back in
+    on_err c.from_residual.result (stops_more _ _ _ _ (as_kept w.0 ++ as_kept whole) (as_kept later) (as_kept c.args.lines.now) (kept_parts w.0 whole later c.args.lines.now (ap (λ (more : List ℕ). w.0 ++ more) parts ∙ w.1))
+    (stops_behind _ _ _ _ _ _ (as_kept w.0) (as_kept whole) w.2 c.in_err-take_or_refuse.ensures.stops))
+
+pub returns-clause-stops : goal.returns-clause-stops
+returns-clause-stops g c = if_err c.take_or_refuse-2.result c.take_or_refuse-2.ensures.stops (λ here.
+    let w = c.loop-line.invariant.3 in
+    let rest = c.loop-line.rest.now in
+    stops_is _ _ _ _ (as_kept w.0 ++ as_kept rest) (as_kept c.args.lines.now) (kept_two w.0 rest c.args.lines.now w.1) (stops_behind _ _ _ _ _ _ (as_kept w.0) (as_kept rest) w.2 here))

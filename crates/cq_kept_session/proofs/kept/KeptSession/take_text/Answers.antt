@@ -2,6 +2,7 @@
 use Rattle.std.proofs.Common.{[], ◌∷◌, sym, subst}
 use Rattle.cq_journal.specs.Changes.{adds}
 use Rattle.cq_journal.specs.Histories.{Tries}
+use Rattle.cq_journal.specs.Journal.{IsJournal}
 use Rattle.cq_kept_session.specs.Kept.{kept_bytes}
 use Rattle.cq_kept_session.proofs.Runs.{honest_on, kept_on, ran_before, records_on, settled, stands_on, told_all, told_so_far}
 use Rattle.cq_kept_session.proofs.kept.KeptSession.take_text.Goals as goal
@@ -83,3 +84,9 @@ returns-in-Err-clause-told g c = λ honest bytes stands.
 
 pub returns-in-Err-clause-tries : goal.returns-in-Err-clause-tries
 returns-in-Err-clause-tries g c = subst (λ j. Tries (adds (c.args.chunk.now ∷ [])) c.args.self.now.journal j) (sym c.tell.ensures.same.0) c.keep.ensures.tries
+
+pub returns-in-Ok-clause-journal : goal.returns-in-Ok-clause-journal
+returns-in-Ok-clause-journal g c = subst (λ j. IsJournal j) (sym c.tell.ensures.same.0) c.in_ok-keep.ensures.journal
+
+pub returns-in-Err-clause-journal : goal.returns-in-Err-clause-journal
+returns-in-Err-clause-journal g c = subst (λ j. IsJournal j) (sym c.tell.ensures.same.0) c.in_ok-keep.ensures.journal
