@@ -2,6 +2,7 @@
 //! `specs/` holds the rules.
 #![tactic(auto)]
 
+mod commands;
 mod invocation;
 
 pub use invocation::{Invocation, JournalOptions, VERSION, invocation_of};

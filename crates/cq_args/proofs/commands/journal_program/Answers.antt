@@ -1,7 +1,7 @@
 use Rattle.std.proofs.Common.{ap, ap₂, ◌≡◌, ◌∙◌}
 use Rattle.std.proofs.lemmas.Result.{IfOk-weaker}
 use Rattle.clap.specs.Words.{App, with_subcommand}
-use Rattle.cq_args.proofs.invocation.journal_program.Goals as goal
+use Rattle.cq_args.proofs.commands.journal_program.Goals as goal
 
 pub returns : goal.returns
 returns c =

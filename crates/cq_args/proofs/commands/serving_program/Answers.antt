@@ -2,7 +2,7 @@ use Rattle.std.proofs.Common.{rules, ap, ap₂, ◌≡◌, ◌∙◌}
 use Rattle.std.proofs.lemmas.Result.{IfOk-weaker}
 use Rattle.clap.specs.Words.{App, app_of, with_subcommand}
 use Rattle.cq_args.specs.CommandLine.{bare_app}
-use Rattle.cq_args.proofs.invocation.serving_program.Goals as goal
+use Rattle.cq_args.proofs.commands.serving_program.Goals as goal
 
 pub returns : goal.returns
 returns c =
