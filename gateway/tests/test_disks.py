@@ -74,6 +74,20 @@ def test_a_disk_that_is_filled_later_takes_nothing_from_a_journal(tmp_path, smal
     assert gateway.stop() == 0
 
 
+@pytest.mark.parametrize("size, taken", [("96MiB", 24 << 20), ("144MiB", 36 << 20)])
+def test_messages_take_a_quarter_of_a_journal(tmp_path, size, taken):
+    gateway = Started("--journal", str(tmp_path / "journal"), "--journal-size", size)
+    call, sent, body = ByJson(gateway.url), 0, "x" * 200_000
+    call("CreateQueue", QueueName="q")
+    with pytest.raises(Refused, match="OverLimit"):
+        while sent < 2 * taken:
+            call("SendMessage", QueueUrl="q", MessageBody=body)
+            sent += len(body)
+    # From 95 % on none is taken.
+    assert 0.9 * taken < sent < taken
+    assert gateway.stop() == 0
+
+
 def test_a_backup_to_a_full_disk_says_what_it_lacks_and_leaves_nothing(tmp_path, small_disk):
     disk = small_disk("24m")
     gateway = Started("--journal", str(tmp_path / "journal"))

@@ -234,7 +234,8 @@ def test_a_file_that_is_made_longer_has_more_room(tmp_path):
     full.restart()
     while full.sends():
         pass
-    assert full.count > 4 * before
+    # 60 MiB for 24.
+    assert full.count > 2 * before
     full.restart()
     full.look()
     assert count(full.call, "q.fifo") == full.count and full.gateway.stop() == 0

@@ -25,6 +25,8 @@ const LEAST_REQUEST_MEMORY: usize = 64 << 20;
 /// In MiB, what cq takes. In less than that its store may find no space beside the entries that led to it.
 const LEAST_KEPT: u64 = 96;
 const MOST_KEPT: u64 = 1 << 20;
+/// What a file has before its regions, in MiB (docs/JOURNAL.md).
+const KEPT_HEAD: u64 = 1;
 
 impl Options {
     /// What a front is started with, if a cluster is named.
@@ -161,7 +163,7 @@ impl Options {
     }
 }
 
-/// How large each program makes its journal, in MiB, where they are so large together.
+/// How large each program makes its journal, in MiB, where they are so large together: so much for regions, and what is before them.
 fn size_of_each(size: Option<Size>, shards: Shards) -> Result<Option<u64>> {
     let Some(Size(bytes)) = size else { return Ok(None) };
     let each = (bytes / u64::from(shards.count())) >> 20;
@@ -169,7 +171,7 @@ fn size_of_each(size: Option<Size>, shards: Shards) -> Result<Option<u64>> {
         let why = format!("journal-size must be {LEAST_KEPT}MiB or more for each program, and {MOST_KEPT}MiB or less");
         return Err(Misuse(why).into());
     }
-    Ok(Some(each))
+    Ok(Some((each + KEPT_HEAD).min(MOST_KEPT)))
 }
 
 /// The longest request and the answer to it have to find room.
@@ -206,7 +208,7 @@ mod tests {
         assert_eq!((settings.host.as_str(), settings.port, settings.open), ("::1", 2, true));
         assert_eq!(
             (settings.memory, settings.journal.unwrap().fresh(0).making),
-            (Some(1 << 20), Making::OfSize(Some(96)))
+            (Some(1 << 20), Making::OfSize(Some(97)))
         );
         assert_eq!(settings.admin, Some("9325".parse().unwrap()));
         assert_eq!((settings.connections, settings.polls), (10_000, 9_000));
@@ -288,7 +290,7 @@ mod tests {
         let peek = Options { peek: Some(true), ..Options::default() };
         let (journal, shards) = (Some(PathBuf::from("a")), Some(2));
         let small = Options { journal, shards, journal_size: Some(Size(191 << 20)), ..Options::default() };
-        let kept = Options { journal_size: Some(Size(194 << 20)), ..small.clone() };
+        let kept = Options { journal_size: Some(Size(192 << 20)), ..small.clone() };
         assert_eq!(settings(kept).unwrap().journal.unwrap().fresh(1).making, Making::OfSize(Some(97)));
         for bad in [alone, none, size, small, many, little, peek] {
             assert!(settings(bad).unwrap_err().is::<Misuse>());
