@@ -93,6 +93,12 @@ impl View<'_> {
             } else {
                 Guard::IsOfRevision(self.keys.beat(server), self.silence.revision(server))
             };
+            if is_condemned {
+                tracing::warn!(server, "a server is condemned: it is given up");
+            } else {
+                let silent_for = self.silence.silent_for(server).as_secs_f64();
+                tracing::warn!(server, "a server hasn't beaten for {silent_for:.1} s: it is given up");
+            }
             return (Some(self.detection(server, vec![guard])), why);
         }
         let (cut_off, why_cut_off_kept) = self.detect_cut_off();

@@ -314,13 +314,30 @@ impl Master {
                 Err(code) => await_memory(code).await?,
             }
         };
-        tracing::info!(line = self.roster.line + 1, "{}", records::text(&line));
+        let before = self.roster.in_words();
         self.roster.feed(&line, orders.iter().map(|order| (order.server, order.number)));
+        self.tell(&line, &before);
         if let Line::Detect { unserved: true, .. } = line {
             self.silence.head_was_given_up();
         }
         self.lines.push(line);
         Ok(())
+    }
+
+    /// Tells the log what a line did to the chain, which was this one before. Its bytes are for a closer look.
+    fn tell(&self, line: &Line, before: &str) {
+        let (number, chain) = (self.roster.line, self.roster.in_words());
+        match line {
+            Line::Detect { server, .. } => tracing::info!(line = number, server, "given up; the chain is {chain}"),
+            Line::Join { server } => tracing::info!(line = number, server, "told to join; the chain is {chain}"),
+            Line::Take { server, .. } if chain != before => {
+                tracing::info!(line = number, server, "a member now; the chain is {chain}");
+            }
+            Line::Take { server, number: message, .. } => {
+                tracing::info!(line = number, server, message, "a message for the master is taken");
+            }
+        }
+        tracing::debug!(line = number, "{}", records::text(line));
     }
 
     /// What `cq master` puts behind a line that may become the next one, or the number of its refusal.

@@ -147,6 +147,13 @@ impl Roster {
         self.told.get(&server).copied().unwrap_or(0)
     }
 
+    /// The members from head to tail, and who joins, for people.
+    pub fn in_words(&self) -> String {
+        let members: Vec<_> = self.members.iter().map(u32::to_string).collect();
+        let joins = self.joiner.map_or_else(String::new, |joiner| format!(", and {joiner} joins"));
+        format!("{}{joins}", members.join(", "))
+    }
+
     pub fn chain(&self) -> Chain {
         Chain {
             line: self.line,
@@ -178,11 +185,12 @@ mod tests {
         assert!(roster.may_join(4) && !roster.may_join(3));
         roster.feed(&Line::Join { server: 4 }, [(4, 1)]);
         assert!(!roster.may_join(5) && roster.orders_for(4) == 1);
+        assert_eq!(roster.in_words(), "1, 2, 3, and 4 joins");
         roster.feed(&take(4, 1, 10, Some(2)), []);
         assert_eq!(roster.joiner, Some(4), "it says so of another predecessor");
         roster.feed(&take(4, 2, 10, Some(3)), [(3, 1)]);
         assert_eq!((&roster.members[..], roster.joiner, roster.is_ready), (&[1, 2, 3, 4][..], None, false));
-        assert_eq!(roster.known_full(), [1, 2, 3]);
+        assert_eq!((roster.known_full(), &roster.in_words()[..]), (vec![1, 2, 3], "1, 2, 3, 4"));
         roster.feed(&take(3, 1, 9, Some(4)), [(4, 2)]);
         roster.feed(&take(4, 3, 11, None), []);
         assert_eq!(roster.known_full(), [1, 2, 3, 4]);

@@ -195,6 +195,13 @@ impl Silence {
         self.settled().saturating_sub(seen.changed) > patience
     }
 
+    /// How long a server hasn't beaten, by the time of contact with etcd.
+    pub fn silent_for(&self, server: u32) -> Duration {
+        let changed = self.seen.get(&server).map(|seen| seen.changed);
+        let since = changed.or_else(|| self.missing.get(&server).copied()).unwrap_or(self.contact);
+        self.contact.saturating_sub(since)
+    }
+
     /// Another member that beats hears it, and no message of the master waits for it: it only doesn't reach etcd.
     fn is_only_cut_off(&self, server: u32, seen: &Seen, roster: &Roster, now: Duration) -> bool {
         let hears_it = |member: u32| self.seen.get(&member).is_some_and(|other| other.beat.hears.contains(&server));
