@@ -7,9 +7,9 @@
 //! is, and fronts, by their pings, which gateways' ports they reach (`witness`, `node/fronts`).
 //! `suspension` has whoever stood still look at etcd first. The node of the head starts the gateway that acts
 //! (`node/gateway`), and fronts find it (`acting`). Who is at the other end of a connection (`transport`) is known by
-//! certificates (`identity`, `pem`), which `certificates` makes. `memory` says how much there is. Two rules are kept: no
-//! clock and no lease is part of what keeps data safe, and a server ends only because the log says so, by a fault of its own,
-//! or since whoever runs it insists.
+//! certificates (`identity`, `pem`), which `certificates` makes. `memory` says how much there is, and `log_limit` bounds what
+//! the log tells of strangers. Two rules are kept: no clock and no lease is part of what keeps data safe, and a server ends
+//! only because the log says so, by a fault of its own, or since whoever runs it insists.
 //!
 //! Requests and stores are bytes here, whose form is that of `hobbychair_bytes`: nothing is known of SQS, and nothing of tables.
 
@@ -28,6 +28,7 @@ mod etcd;
 pub mod identity;
 mod journal;
 mod link;
+pub mod log_limit;
 mod master;
 pub mod memory;
 mod node;

@@ -8,6 +8,7 @@ use std::time::Duration;
 
 use bytes::Bytes;
 use hobbychair_cluster::identity::{Identity, Role};
+use hobbychair_cluster::log_limit::LogLimit;
 use hyper::header::{HeaderValue, CONNECTION};
 use hyper::server::conn::Http;
 use hyper::service::service_fn;
@@ -99,6 +100,8 @@ pub struct Door {
     places: Places,
     /// As many calls of fronts are answered at once.
     calls: Arc<Semaphore>,
+    /// Connections that aren't fronts'.
+    refused: LogLimit,
 }
 
 impl Door {
@@ -109,7 +112,7 @@ impl Door {
         places: Places,
     ) -> Door {
         let calls = Arc::new(Semaphore::new(places.served as usize));
-        Door { service, certificate, identity, places, calls }
+        Door { service, certificate, identity, places, calls, refused: LogLimit::default() }
     }
 
     /// Serves connections until the end comes, and then until all have ended.
@@ -157,8 +160,8 @@ impl Door {
                 Ok(Ok(stream)) => Box::pin(self.converse(stream, socket, peer, is_served, ending)).await,
                 // Somebody looked whether the port is open.
                 Ok(Err(error)) if has_gone(&error) => {}
-                Ok(Err(error)) => tracing::warn!(%peer, %error, "who is no front of the cluster is refused"),
-                Err(_) => tracing::warn!(%peer, "who says nothing is refused"),
+                Ok(Err(error)) => self.tell_refused(peer, &error.to_string()),
+                Err(_) => self.tell_refused(peer, "it says nothing"),
             };
         }
         let Some(certificate) = &self.certificate else {
@@ -173,6 +176,13 @@ impl Door {
             Ok(Ok(stream)) => Box::pin(self.converse(stream, socket, peer, is_served, ending)).await,
             Ok(Err(error)) => tracing::debug!(%peer, "no TLS came about: {error}"),
             Err(_) => tracing::debug!(%peer, "no TLS came about in time"),
+        }
+    }
+
+    /// Anybody may connect as often as he likes, so the log tells how many were refused, and why the last one was.
+    fn tell_refused(&self, peer: SocketAddr, why: &str) {
+        if let Some(count) = self.refused.count() {
+            tracing::warn!(%peer, count, "who is no front of the cluster is refused: {why}");
         }
     }
 
