@@ -3,6 +3,7 @@
 from __future__ import annotations
 
 import json
+import os
 import signal
 import time
 from collections.abc import Callable
@@ -15,6 +16,10 @@ from clusters import Node, children_of
 
 # What a test writes to etcd, and what isn't there any more once a copy from before is put back.
 MARK = "of-a-test/behind-the-copy"
+
+# The name of a way to do faults that is taken more often than by chance, and how much more.
+OFTEN = os.environ.get("HOBBYCHAIR_TEST_FAULTS_OFTEN")
+MORE = 30
 
 # What a node says whose wall clock isn't the cluster's.
 OFF = "the wall clock of this machine is off the cluster's time"
@@ -428,7 +433,9 @@ class ServedFaults(Faults):
         fronts = [(self.kill_front, 2), (self.stop_front, 2)]
         links = [(self.cut_from_etcd, 5), (self.cut_links, 6), (self.cut_head_off, 3), (self.lose_packets, 4)]
         machines = [(self.lose_machine, 4), (self.stop_machine, 3)]
-        return nodes + disks + masters + etcd + gateways + fronts + links + machines
+        ways = nodes + disks + masters + etcd + gateways + fronts + links + machines
+        assert not OFTEN or OFTEN in [way.__name__ for way, _ in ways], f"there is no fault {OFTEN}"
+        return [(way, weight * (MORE if way.__name__ == OFTEN else 1)) for way, weight in ways]
 
     def keep_all_going(self, wanted: int) -> None:
         """What ended is started again, as whoever runs a cluster has it, and a node joins for each that is lost."""
