@@ -2,8 +2,9 @@
 //! environment's `FAIL` says, as `sync:3` for the third one alone, `sync:3+` for it and all behind it, or `read:1,sync:3` for both.
 //! Kinds are `open`, `length`, `read`, `write`, `sync` and, of the file's folder, `folder-sync`. A `write` that fails writes nothing,
 //! and `write-part` half of its bytes first; `full` says that the disk has no space. Of the reads within a journal's root, which are
-//! counted apart, one that is `stale` gives zeros. `FAIL_FILE` is how the file's name ends. It says on standard error once that a call fails, and with `FAIL=count` at the end how many calls there
-//! were of each kind.
+//! counted apart, one that is `stale` gives zeros. `FAIL_FILE` is how the file's name ends. It says on standard error once that a call
+//! fails, and with `FAIL=count` at the end how many calls there were of each kind. `FAIL_SPACE` names a file that says for how many
+//! bytes of the file the disk has space: a write that ends behind them fails. Where it isn't there, the disk has space for all.
 use std::ffi::{c_char, c_int, c_void, CStr, CString};
 use std::sync::atomic::{AtomicBool, AtomicU64, Ordering};
 
@@ -77,12 +78,19 @@ fn fate(kind: usize) -> Fate {
     fate
 }
 
-/// What becomes of the next read or write, which is at this place.
-fn fate_at(kind: usize, at: i64) -> Fate {
+/// What becomes of the next read or write, of so many bytes at this place.
+fn fate_at(kind: usize, at: i64, len: usize) -> Fate {
     match fate(kind) {
         Fate::Goes if KINDS[kind] == "read" && at < ROOT => fate(6),
+        Fate::Goes if KINDS[kind] == "write" && !has_space(at + len as i64) => Fate::Fails(NO_SPACE),
         fate => fate,
     }
+}
+
+/// Whether the disk has space for so many bytes of the file.
+fn has_space(end: i64) -> bool {
+    let said = std::fs::read_to_string(variable("FAIL_SPACE"));
+    said.ok().and_then(|space| space.trim().parse().ok()).is_none_or(|space: i64| end <= space)
 }
 
 fn failed(error: c_int) -> c_int {
@@ -157,7 +165,7 @@ macro_rules! moves {
     ($kind:literal: $($name:ident)*) => {$(
         #[no_mangle]
         pub unsafe extern "C" fn $name(file: c_int, bytes: *mut c_void, len: usize, at: i64) -> isize {
-            match if is_of(file).0 { fate_at($kind, at) } else { Fate::Goes } {
+            match if is_of(file).0 { fate_at($kind, at, len) } else { Fate::Goes } {
                 Fate::Goes => next::<At>(stringify!($name))(file, bytes, len, at),
                 Fate::Fails(error) => failed(error) as isize,
                 Fate::Breaks => {

@@ -25,11 +25,11 @@ import urllib.request
 from pathlib import Path
 
 TOP = Path(__file__).resolve().parents[2]
-sys.path.insert(0, str(TOP / "gateway" / "tests"))
+sys.path.insert(0, str(TOP / "gateway" / "tests" / "lib"))
 
 from cluster_work import Served  # noqa: E402
-from clusters import wait  # noqa: E402
 from started import Started  # noqa: E402
+from waiting import until  # noqa: E402
 from takeover import BODY, Connection, fill  # noqa: E402
 
 LOAD = TOP / "gateway" / "target" / "release" / "examples" / "load"
@@ -112,7 +112,7 @@ def join(stored: int) -> None:
             before, longest = sending.sent, sending.longest
             begun = time.monotonic()
             cluster.start_node()
-            wait(120, cluster.settles([1, 2, 3, 4]), "it doesn't become a member")
+            until(cluster.settles([1, 2, 3, 4]), 120, "it doesn't become a member")
             took = time.monotonic() - begun
         finally:
             sending.end()

@@ -15,9 +15,10 @@ import tempfile
 from pathlib import Path
 
 TOP = Path(__file__).resolve().parents[2]
-sys.path.insert(0, str(TOP / "gateway" / "tests"))
+sys.path.insert(0, str(TOP / "gateway" / "tests" / "lib"))
 
-from clusters import Cluster, wait  # noqa: E402
+from clusters import Cluster  # noqa: E402
+from waiting import until  # noqa: E402
 
 KINDS = {"none": [], "buffered": ["--journal"], "durable": ["--durable", "--journal"]}
 
@@ -34,7 +35,7 @@ def main() -> int:
             kept = [*words, str(Path(room) / "journals")] if words else []
             cluster = Cluster(Path(room), gateways=True, words=lambda number: kept, traced=False)
             try:
-                wait(30, lambda: cluster.gateway_acts(1), "no gateway acts")
+                until(lambda: cluster.gateway_acts(1), 30, "no gateway acts")
                 target = f"{kind}=http://127.0.0.1:{cluster.node(1).gateway_port}"
                 asked = ["--target", target, "--connections", given.connections, "--messages", given.messages, "--batches", "1"]
                 subprocess.run([load, *asked], check=True)

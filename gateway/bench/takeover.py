@@ -23,10 +23,11 @@ from pathlib import Path
 from urllib.parse import urlsplit
 
 TOP = Path(__file__).resolve().parents[2]
-sys.path.insert(0, str(TOP / "gateway" / "tests"))
+sys.path.insert(0, str(TOP / "gateway" / "tests" / "lib"))
 
 from cluster_work import Served  # noqa: E402
-from clusters import Node, wait  # noqa: E402
+from clusters import Node  # noqa: E402
+from waiting import until  # noqa: E402
 
 HEADERS = {"Content-Type": "application/x-amz-json-1.0"}
 BODY = "x" * 100
@@ -131,8 +132,8 @@ def run(room: Path, messages: int, queues: int) -> None:
         killed = time.time()
         cluster.kill(1)
         try:
-            wait(60, lambda: cluster.gateway_acts(2), "no gateway acts")
-            wait(60, lambda: bool(asking.answers) and asking.answers[-1] > time.time() - 0.5, "nobody answers")
+            until(lambda: cluster.gateway_acts(2), 60, "no gateway acts")
+            until(lambda: bool(asking.answers) and asking.answers[-1] > time.time() - 0.5, 60, "nobody answers")
             time.sleep(1)
         finally:
             asking.end()

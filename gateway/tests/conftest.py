@@ -1,20 +1,18 @@
 """What tests share: started gateways, the ways to call them, and moto where it is installed."""
 
-from __future__ import annotations
-
-import itertools
-import re
 import shutil
 import subprocess
 import sys
-import time
 from collections.abc import Callable, Iterator
 from pathlib import Path
 from typing import Any
 
 import pytest
 
-from started import START, TOP, ByBoto3, ByJson, ByQuery, Refused, Started, boto3_client, gateway_program, program
+from longest import SECONDS
+from rules import Rules
+from started import START, TOP, ByBoto3, ByJson, ByQuery, Started, boto3_client, gateway_program, program
+from waiting import until
 
 sys.path.append(str(TOP / "check"))
 from recorder import Recorder  # noqa: E402
@@ -25,14 +23,16 @@ try:
 except ImportError:
     moto = None
 
-_names = itertools.count(1)
-
-
 def pytest_sessionstart() -> None:
     if shutil.which(program()) is None:
         pytest.exit(f"{program()} isn't built. To prove and build it: ./cq --build", returncode=3)
     if shutil.which(gateway_program()) is None:
         pytest.exit(f"{gateway_program()} isn't built. To build it: cargo build --release", returncode=3)
+
+
+def pytest_collection_modifyitems(items: list[pytest.Item]) -> None:
+    """The files that take longest begin first, so that no worker is left with one of them at the end."""
+    items.sort(key=lambda item: -SECONDS.get(item.path.stem, 0))
 
 
 @pytest.fixture(autouse=True)
@@ -48,9 +48,8 @@ def journals_go(request) -> Iterator[None]:
 @pytest.fixture(scope="session")
 def gateway(tmp_path_factory):
     """A gateway whose clock the tests set."""
-    started = Started(room=tmp_path_factory.mktemp("gateway"))
-    yield started
-    assert started.stop() == 0
+    with Started("--admin", "0", room=tmp_path_factory.mktemp("gateway")) as started:
+        yield started
 
 
 @pytest.fixture(params=["boto3", "json", "query"])
@@ -77,52 +76,8 @@ def small_disk(tmp_path) -> Iterator[Callable[[str], Path]]:
     yield mount
     for room in disks:
         # A program that was just killed may have its file for a moment.
-        begun = time.monotonic()
-        while subprocess.run(["umount", str(room)]).returncode != 0:
-            assert time.monotonic() - begun < 20, "a program that the test began has a file of the disk still"
-            time.sleep(0.1)
-
-
-def new_name() -> str:
-    return f"q{next(_names)}.fifo"
-
-
-def new_queue(call, **attributes: str) -> str:
-    given = {"FifoQueue": "true", **attributes}
-    return call("CreateQueue", QueueName=new_name(), Attributes=given)["QueueUrl"]
-
-
-class Rules:
-    """A queue service whose clock stands still until a test moves it."""
-
-    def __init__(self, call, move: Callable[[int], None]) -> None:
-        self.call = call
-        self.move = move
-
-    def queue(self, **attributes: str) -> str:
-        return new_queue(self.call, **attributes)
-
-    def send(self, queue: str, dedup: str, group: str = "g", body: str = "b", **more: Any) -> dict[str, Any]:
-        return self.call("SendMessage", QueueUrl=queue, MessageBody=body, MessageGroupId=group,
-                         MessageDeduplicationId=dedup, **more)
-
-    def receive(self, queue: str, size: int = 10, **more: Any) -> list[dict[str, Any]]:
-        return self.call("ReceiveMessage", QueueUrl=queue, MaxNumberOfMessages=size, **more).get("Messages", [])
-
-    def bodies(self, queue: str, size: int = 10, **more: Any) -> list[str]:
-        return [message["Body"] for message in self.receive(queue, size, **more)]
-
-    def delete(self, queue: str, message: dict[str, Any]) -> None:
-        self.call("DeleteMessage", QueueUrl=queue, ReceiptHandle=message["ReceiptHandle"])
-
-    def change(self, queue: str, message: dict[str, Any], seconds: int) -> None:
-        self.call("ChangeMessageVisibility", QueueUrl=queue, ReceiptHandle=message["ReceiptHandle"],
-                  VisibilityTimeout=seconds)
-
-    def refused(self, code: str, action: Callable[[], Any]) -> None:
-        with pytest.raises(Refused) as refusal:
-            action()
-        assert re.fullmatch(rf"(AWS\.SimpleQueueService\.)?{code}", refusal.value.code)
+        until(lambda: subprocess.run(["umount", str(room)]).returncode == 0, 20,
+              "a program that the test began has a file of the disk still")
 
 
 # Rules of which the other one is a service's choice.

@@ -3,7 +3,7 @@ use Rattle.std.proofs.Common.{◌≡◌, ℕ, ◌-◌, List, [], ◌∷◌, ◌+
 use Rattle.cq_frame_loop.specs.Cutting.{frames_behind}
 use Rattle.cq_frame_loop.specs.Chains.{Relation, Breaks, AnswersFront, frames_in, text_in}
 use Rattle.cq_frame_loop.specs.within.Advances.{Advances, BeginsWith, FailsAt, FailsIn, StopsAt}
-use Rattle.cq_frame_loop.specs.within.Writes.{IsWriteFault, Passes}
+use Rattle.cq_frame_loop.specs.Writes.{IsWriteFault, Passes}
 use Rattle.cq_frame_loop.specs.declared.fault.LoopFault.{LoopFault}
 use Rattle.cq_frame_loop.specs.declared.fault.LoopFault.TheVariants.{NoMemory, ReadFailed, WriteFailed, Unanswered, Interrupted, TooManyBytes}
 use Rattle.cq_frame_loop.proofs.Cuts.{passed}

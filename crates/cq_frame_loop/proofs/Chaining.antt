@@ -4,6 +4,10 @@ use Rattle.std.proofs.lemmas.List.{map-append}
 use Rattle.std.proofs.lemmas.List.Concat.{flat_map-append}
 use Rattle.cq_frame_loop.specs.Chains.{Relation, Step, IsChain, frames_in, text_in}
 
+-- one answer
+abbrev pub one_step : {S : Type 0} → Option (List ℕ) → List ℕ → S → List (Step S)
+one_step frame text after = record { frame = frame; text = text; after = after } ∷ []
+
 pub chain-append : {S : Type 0} (answers : Relation S) (first middle last : S) (xs ys : List (Step S)) → IsChain answers first xs middle → IsChain answers middle ys last → IsChain answers first (xs ++ ys) last
 chain-append answers first middle last [] ys before behind = subst (λ s. IsChain answers s ys last) (sym before) behind
 chain-append answers first middle last (x ∷ xs) ys before behind = (before.0, chain-append answers x.after middle last xs ys before.1 behind)

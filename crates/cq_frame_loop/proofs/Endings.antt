@@ -6,7 +6,7 @@ use Rattle.cq_frame_loop.specs.Cutting.{frames_behind, frames_of}
 use Rattle.cq_frame_loop.specs.Chains.{Relation, Breaks, AnswersAll, AnswersFront, frames_in}
 use Rattle.cq_frame_loop.specs.Loops.{AnswersInput, LeavesReader, LeavesWriter}
 use Rattle.cq_frame_loop.specs.within.Advances.{Advances, FailsIn}
-use Rattle.cq_frame_loop.specs.within.Writes.{IsReadFault, IsWriting, LeavesAt}
+use Rattle.cq_frame_loop.specs.Writes.{IsReadFault, IsWriting, LeavesAt}
 use Rattle.cq_frame_loop.specs.declared.fault.LoopFault.{LoopFault}
 use Rattle.cq_frame_loop.specs.declared.fault.LoopFault.TheVariants.{NoMemory, ReadFailed, WriteFailed, Unanswered, Interrupted, TooManyBytes}
 use Rattle.cq_frame_loop.proofs.Advancing.{cut_now}

@@ -6,3 +6,4 @@ pub mod Advancing
 pub mod Endings
 pub mod Examples
 pub mod Settled
+pub mod Waiting

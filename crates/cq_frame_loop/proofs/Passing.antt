@@ -5,7 +5,7 @@ use Rattle.std.proofs.lemmas.List.{take_at}
 use Rattle.cq_base.specs.Relations.{IsPrefix}
 use Rattle.cq_frame_loop.specs.Chains.{Relation, Breaks, Step}
 use Rattle.cq_frame_loop.specs.within.Advances.{FailsAt, StopsAt}
-use Rattle.cq_frame_loop.specs.within.Writes.{BreaksOffAt, IsWriteFault, Passes, Takes}
+use Rattle.cq_frame_loop.specs.Writes.{BreaksOffAt, IsWriteFault, Passes, Takes}
 use Rattle.cq_frame_loop.specs.declared.fault.LoopFault.{LoopFault}
 use Rattle.cq_frame_loop.specs.declared.fault.LoopFault.TheVariants.{NoMemory, ReadFailed, WriteFailed, Unanswered, Interrupted, TooManyBytes}
 

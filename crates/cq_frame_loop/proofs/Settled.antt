@@ -8,13 +8,13 @@ use Rattle.cq_frame_loop.specs.Chains.{AnswersAll, Relation, Step, frames_in, te
 use Rattle.cq_frame_loop.specs.Settling.{LeavesSettledReader, LeavesSettledWriter, SettlesInput, Stops, StopsFront}
 use Rattle.cq_frame_loop.specs.within.Advances.{Advances, BeginsWith}
 use Rattle.cq_frame_loop.specs.within.Settled.{IsStop, Proceeds, Rested, StopsBehind, StopsWriting, WaitsOrSettles}
-use Rattle.cq_frame_loop.specs.within.Writes.{IsReadFault, IsWriteFault, LeavesAt}
+use Rattle.cq_frame_loop.specs.Writes.{IsReadFault, IsWriteFault, LeavesAt}
 use Rattle.cq_frame_loop.specs.declared.fault.LoopFault.{LoopFault}
 use Rattle.cq_frame_loop.specs.declared.fault.LoopFault.TheVariants.{NoMemory, ReadFailed, WriteFailed, Unanswered, Interrupted, TooManyBytes}
 use Rattle.cq_frame_loop.specs.declared.settling.SettledFault.{SettledFault}
 use Rattle.cq_frame_loop.specs.declared.settling.SettledFault.TheVariants.{Loop, Unsettled}
 use Rattle.cq_frame_loop.proofs.Advancing.{begins_now, cut_now}
-use Rattle.cq_frame_loop.proofs.Chaining.{chain-append, frames_in-append, frames-front, frames-on, frames-settled, text-behind, text-on}
+use Rattle.cq_frame_loop.proofs.Chaining.{chain-append, frames_in-append, frames-front, frames-on, frames-settled, one_step, text-behind, text-on}
 use Rattle.cq_frame_loop.proofs.Cuts.{passed}
 
 -- ---- faults
@@ -66,10 +66,6 @@ module _ {S : Type 0} (answers : Relation S) (rests : S → S → Type 0) where
     settled = w.settled;
     stopped = w.stopped;
   }
-
--- one answer
-abbrev one_step : {S : Type 0} → Option (List ℕ) → List ℕ → S → List (Step S)
-one_step frame text after = record { frame = frame; text = text; after = after } ∷ []
 
 module _ {S : Type 0} (answers : Relation S) (is_settled : S → Type 0) where
   -- nothing was answered yet

@@ -4,5 +4,6 @@ pub mod Laws
 -- what is told of them
 pub mod Chains
 pub mod Loops
+pub mod Writes
 pub mod Settling
 pub mod within

@@ -9,6 +9,15 @@ use Rattle.cq_frame_loop.specs.declared.settling.SettledFault.{SettledFault}
 use Rattle.cq_frame_loop.specs.declared.settling.SettledFault.TheVariants.{Loop, Unsettled}
 use Rattle.cq_lines.specs.declared.text.TheConstants.{BYTES_LIMIT}
 
+-- What is told stands in the answers that led to this state.
+pub record IsAnswered {S : Type 0} (answers : Relation S) (told : List ℕ) (state : S) : Type 0 where
+  pub first : S
+  pub steps : List (Step S)
+  pub chain : IsChain answers first steps state
+  pub before : List ℕ
+  pub behind : List ℕ
+  pub among : text_in steps ≡ before ++ (told ++ behind)
+
 -- What a fault makes of a state.
 abbrev pub Stops : Type 0 → Type 1
 Stops S = S → S → Type 0

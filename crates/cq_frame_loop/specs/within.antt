@@ -1,4 +1,3 @@
 -- What only the private functions cite.
-pub mod Writes
 pub mod Advances
 pub mod Settled

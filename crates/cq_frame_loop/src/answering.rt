@@ -4,7 +4,7 @@ ghost use Rattle.std.specs.Io.KnownBytes.{Appends};
 ghost use Rattle.cq_frames.specs.declared.frame.TheConstants.{FRAME_LIMIT};
 ghost use Rattle.cq_frame_loop.specs.Cutting.{frames_behind};
 ghost use Rattle.cq_frame_loop.specs.within.Advances.{Advances, AdvancesTo, FailsAt, FailsIn};
-ghost use Rattle.cq_frame_loop.specs.within.Writes.{BreaksOffAt, LeavesAt};
+ghost use Rattle.cq_frame_loop.specs.Writes.{BreaksOffAt, LeavesAt};
 
 use crate::buffer::keep_last;
 use crate::fault::LoopFault;

@@ -2,7 +2,7 @@
 ghost use Rattle.std.specs.Prelude.{◌≡◌, ◌-◌, ◌≤◌, drop, length, take};
 ghost use Rattle.std.specs.Io.{ReadsAtMost};
 ghost use Rattle.std.specs.Io.KnownBytes.{ReadConsumes};
-ghost use Rattle.cq_frame_loop.specs.within.Writes.{IsReadFault};
+ghost use Rattle.cq_frame_loop.specs.Writes.{IsReadFault};
 
 use crate::fault::LoopFault;
 use cq_lines::Source;

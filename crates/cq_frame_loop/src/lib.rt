@@ -11,6 +11,7 @@ pub mod laws;
 mod settled_loop;
 mod settled_writing;
 mod settling;
+mod telling;
 mod writing;
 
 pub use fault::LoopFault;
@@ -18,3 +19,4 @@ pub use frame_loop::{BUFFER_SIZE, answer_frames};
 pub use handler::{ANSWER_ROOM, FrameHandler, Unanswered};
 pub use settled_loop::answer_settled_frames;
 pub use settling::{SettledFault, SettlingHandler, Unsettled};
+pub use telling::SettledSink;

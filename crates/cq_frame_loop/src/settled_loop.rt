@@ -14,13 +14,13 @@ use crate::front::{front_of, pass};
 use crate::handler::ANSWER_ROOM;
 use crate::settled_writing::answer_settled;
 use crate::settling::{SettledFault, SettlingHandler};
-use crate::writing::flush_all;
-use cq_lines::{BYTES_LIMIT, Sink, Source};
+use crate::telling::SettledSink;
+use cq_lines::{BYTES_LIMIT, Source};
 use std::alloc::Global;
 
 /// Answers each whole frame of these bytes, of which the first so many are passed over, and settles and writes what was told: how many of
 /// the bytes are left, which is an unfinished frame, and how many of those that come are to be passed over.
-fn answer_each<H: SettlingHandler, W: Sink>(
+fn answer_each<H: SettlingHandler, W: SettledSink<H>>(
     handler: &mut H,
     bytes: &[u8],
     count: usize,
@@ -35,10 +35,10 @@ fn answer_each<H: SettlingHandler, W: Sink>(
     requires room { ANSWER_ROOM ≤ vec_capacity end.old }
     ensures ready { OnOk result (H.is_ready handler.new) }
     ensures settled { OnOk result (H.is_settled handler.new) }
-    ensures answers { IfOk result (λ left. (output : List ℕ) × Appends (W.contents writer.old) (W.contents writer.new) output
+    ensures answers { IfOk result (λ left. (output : List ℕ) × Appends (W.taken writer.old) (W.taken writer.new) output
         × AdvancesTo H.answers handler.old count bytes.now output handler.new left.1 left.0) }
-    ensures stops { IfErr result (λ fault. (output : List ℕ) × Appends (W.contents writer.old) (W.contents writer.new) output
-        × StopsFront H.answers H.stops H.is_settled handler.old (frames_behind count bytes.now) output handler.new × IsStop fault (W.has_failed writer.new)) }
+    ensures stops { IfErr result (λ fault. (output : List ℕ) × Appends (W.taken writer.old) (W.taken writer.new) output
+        × StopsFront H.answers H.stops H.is_settled handler.old (frames_behind count bytes.now) output handler.new × IsStop fault (W.is_broken writer.new)) }
     ensures nothing { OnOk result (out.new.items ≡ []) }
     ensures empty { OnOk result (end.new.items ≡ []) }
     ensures room { ANSWER_ROOM ≤ vec_capacity end.new }
@@ -55,7 +55,7 @@ fn answer_each<H: SettlingHandler, W: Sink>(
 }
 
 /// Answers, settles and writes so, and flushes what was written.
-fn answer_all<H: SettlingHandler, W: Sink>(
+fn answer_all<H: SettlingHandler, W: SettledSink<H>>(
     handler: &mut H,
     bytes: &[u8],
     count: usize,
@@ -70,17 +70,17 @@ fn answer_all<H: SettlingHandler, W: Sink>(
     requires room { ANSWER_ROOM ≤ vec_capacity end.old }
     ensures ready { OnOk result (H.is_ready handler.new) }
     ensures settled { OnOk result (H.is_settled handler.new) }
-    ensures answers { IfOk result (λ left. (output : List ℕ) × Appends (W.contents writer.old) (W.contents writer.new) output
+    ensures answers { IfOk result (λ left. (output : List ℕ) × Appends (W.taken writer.old) (W.taken writer.new) output
         × AdvancesTo H.answers handler.old count bytes.now output handler.new left.1 left.0) }
-    ensures stops { IfErr result (λ fault. (output : List ℕ) × Appends (W.contents writer.old) (W.contents writer.new) output
-        × StopsFront H.answers H.stops H.is_settled handler.old (frames_behind count bytes.now) output handler.new × IsStop fault (W.has_failed writer.new)) }
-    ensures flushed { OnOk result (W.has_flushed writer.new ≡ true) }
+    ensures stops { IfErr result (λ fault. (output : List ℕ) × Appends (W.taken writer.old) (W.taken writer.new) output
+        × StopsFront H.answers H.stops H.is_settled handler.old (frames_behind count bytes.now) output handler.new × IsStop fault (W.is_broken writer.new)) }
+    ensures flushed { OnOk result (W.is_passed_on writer.new ≡ true) }
     ensures nothing { OnOk result (out.new.items ≡ []) }
     ensures empty { OnOk result (end.new.items ≡ []) }
     ensures room { ANSWER_ROOM ≤ vec_capacity end.new }
 {
     match answer_each(handler, bytes, count, out, end, writer) {
-        Ok(left) => match flush_all(writer) {
+        Ok(left) => match writer.pass_on() {
             Ok(()) => Ok(left),
             Err(fault) => Err(SettledFault::Loop(fault)),
         },
@@ -90,7 +90,7 @@ fn answer_all<H: SettlingHandler, W: Sink>(
 
 /// Answers each whole frame of the first `len` bytes of the buffer so, of which the first so many are passed over, and moves what is left
 /// of them to the front: how many bytes that are, and how many of those that come are to be passed over.
-fn answer_buffer<H: SettlingHandler, W: Sink>(
+fn answer_buffer<H: SettlingHandler, W: SettledSink<H>>(
     handler: &mut H,
     buffer: &mut [u8],
     len: usize,
@@ -107,13 +107,13 @@ fn answer_buffer<H: SettlingHandler, W: Sink>(
     requires room { ANSWER_ROOM ≤ vec_capacity end.old }
     ensures ready { OnOk result (H.is_ready handler.new) }
     ensures settled { OnOk result (H.is_settled handler.new) }
-    ensures answers { IfOk result (λ left. (output : List ℕ) × Appends (W.contents writer.old) (W.contents writer.new) output
+    ensures answers { IfOk result (λ left. (output : List ℕ) × Appends (W.taken writer.old) (W.taken writer.new) output
         × Advances H.answers handler.old count (take len buffer.old) output handler.new left.1 (take left.0 buffer.new)
         × (frames_behind left.1 (take left.0 buffer.new) ≡ [])) }
     ensures short { IfOk result (λ left. left.0 < FRAME_LIMIT + 4) }
-    ensures stops { IfErr result (λ fault. (output : List ℕ) × Appends (W.contents writer.old) (W.contents writer.new) output
-        × StopsFront H.answers H.stops H.is_settled handler.old (frames_behind count (take len buffer.old)) output handler.new × IsStop fault (W.has_failed writer.new)) }
-    ensures flushed { OnOk result (W.has_flushed writer.new ≡ true) }
+    ensures stops { IfErr result (λ fault. (output : List ℕ) × Appends (W.taken writer.old) (W.taken writer.new) output
+        × StopsFront H.answers H.stops H.is_settled handler.old (frames_behind count (take len buffer.old)) output handler.new × IsStop fault (W.is_broken writer.new)) }
+    ensures flushed { OnOk result (W.is_passed_on writer.new ≡ true) }
     ensures nothing { OnOk result (out.new.items ≡ []) }
     ensures empty { OnOk result (end.new.items ≡ []) }
     ensures room { ANSWER_ROOM ≤ vec_capacity end.new }
@@ -125,7 +125,7 @@ fn answer_buffer<H: SettlingHandler, W: Sink>(
 }
 
 /// Answers the frames that the reader gives, with buffers that are empty.
-fn answer_with<H: SettlingHandler, R: Source, W: Sink>(
+fn answer_with<H: SettlingHandler, R: Source, W: SettledSink<H>>(
     handler: &mut H,
     reader: &mut R,
     writer: &mut W,
@@ -141,9 +141,9 @@ fn answer_with<H: SettlingHandler, R: Source, W: Sink>(
     requires room { ANSWER_ROOM ≤ vec_capacity end.old }
     ensures answers { (input : List ℕ) × (output : List ℕ)
         × Consumes (R.remaining reader.old) (R.remaining reader.new) input
-        × Appends (W.contents writer.old) (W.contents writer.new) output
+        × Appends (W.taken writer.old) (W.taken writer.new) output
         × SettlesInput H.answers H.stops H.is_settled result handler.old handler.new input (R.remaining reader.new) output
-        × LeavesSettledWriter result input (W.has_failed writer.new) (W.has_flushed writer.new) }
+        × LeavesSettledWriter result input (W.is_broken writer.new) (W.is_passed_on writer.new) }
     ensures reader { LeavesSettledReader result (R.has_failed reader.new) }
 {
     let mut len = 0;
@@ -154,7 +154,7 @@ fn answer_with<H: SettlingHandler, R: Source, W: Sink>(
                 if reader.failed() {
                     return Err(SettledFault::Loop(LoopFault::ReadFailed));
                 }
-                return match flush_all(writer) {
+                return match writer.pass_on() {
                     Ok(()) => Ok(()),
                     Err(fault) => Err(SettledFault::Loop(fault)),
                 };
@@ -173,7 +173,7 @@ fn answer_with<H: SettlingHandler, R: Source, W: Sink>(
 /// Reads frames, has the handler answer each, and writes the answers, as `answer_frames` does. But what one read brings is answered, then
 /// all of it is settled at once, and then it is written and flushed, before more is read: so what comes meanwhile is settled together.
 /// Nothing is written that isn't settled, whatever fault ends it. What is told before gets much, or wants memory, is settled and written earlier.
-pub fn answer_settled_frames<H: SettlingHandler, R: Source, W: Sink>(
+pub fn answer_settled_frames<H: SettlingHandler, R: Source, W: SettledSink<H>>(
     alloc: Global,
     handler: &mut H,
     reader: &mut R,
@@ -183,9 +183,9 @@ pub fn answer_settled_frames<H: SettlingHandler, R: Source, W: Sink>(
     requires settled { H.is_settled handler.old }
     ensures answers { (input : List ℕ) × (output : List ℕ)
         × Consumes (R.remaining reader.old) (R.remaining reader.new) input
-        × Appends (W.contents writer.old) (W.contents writer.new) output
+        × Appends (W.taken writer.old) (W.taken writer.new) output
         × SettlesInput H.answers H.stops H.is_settled result handler.old handler.new input (R.remaining reader.new) output
-        × LeavesSettledWriter result input (W.has_failed writer.new) (W.has_flushed writer.new) }
+        × LeavesSettledWriter result input (W.is_broken writer.new) (W.is_passed_on writer.new) }
     ensures reader { LeavesSettledReader result (R.has_failed reader.new) }
 {
     let Ok(mut end) = Vec::with_capacity(alloc, ANSWER_ROOM) else {

@@ -1,49 +1,51 @@
 //! Writing what is told, once all that it rests on is settled.
 ghost use Rattle.std.specs.Prelude.{◌≡◌, ◌++◌, ◌≤◌, ℕ, List, [], ◌∷◌, true, option_map, vec_capacity, OnOk, IfErr};
 ghost use Rattle.std.specs.Io.KnownBytes.{Appends};
-ghost use Rattle.cq_frame_loop.specs.within.Settled.{IsStop, Rested, StopsBehind, StopsWriting, WaitsOrSettles};
-ghost use Rattle.cq_frame_loop.specs.within.Writes.{IsWriteFault, LeavesAt, Takes};
+ghost use Rattle.cq_frame_loop.specs.within.Settled.{IsStop, Rested, StopsBehind, StopsWriting, Waits, WaitsOrSettles};
+ghost use Rattle.cq_frame_loop.specs.Writes.{IsWriteFault, LeavesAt, Takes};
 
 use crate::fault::LoopFault;
 use crate::handler::ANSWER_ROOM;
 use crate::settling::{SettledFault, SettlingHandler};
-use crate::writing::{OUT_LIMIT, write_out};
-use cq_lines::Sink;
+use crate::telling::SettledSink;
+use crate::writing::OUT_LIMIT;
 
 /// Writes what was told, and then the last part of an answer, and clears both. It asks that all is settled: nobody is told before.
-fn write_settled<H: SettlingHandler, W: Sink>(
-    _handler: &H,
+fn write_settled<H: SettlingHandler, W: SettledSink<H>>(
+    handler: &H,
     out: &mut Vec<u8>,
     end: &mut Vec<u8>,
     writer: &mut W,
 ) -> Result<(), LoopFault>
-    requires settled { H.is_settled _handler.now }
-    ensures takes { Takes result (out.old.items ++ end.old.items) [] (W.contents writer.old) (W.contents writer.new) }
-    ensures leaves { IfErr result (λ fault. LeavesAt fault (W.has_failed writer.new) (W.has_flushed writer.new)) }
+    requires settled { H.is_settled handler.now }
+    requires waits { Waits H.answers (out.old.items ++ end.old.items) handler.now }
+    ensures takes { Takes result (out.old.items ++ end.old.items) [] (W.taken writer.old) (W.taken writer.new) }
+    ensures leaves { IfErr result (λ fault. LeavesAt fault (W.is_broken writer.new) (W.is_passed_on writer.new)) }
     ensures nothing { OnOk result (out.new.items ≡ []) }
     ensures empty { OnOk result (end.new.items ≡ []) }
     ensures capacity { vec_capacity end.new ≡ vec_capacity end.old }
 {
-    match write_out(out, writer) {
-        Ok(()) => write_out(end, writer),
+    match writer.tell(handler, out) {
+        Ok(()) => writer.tell(handler, end),
         Err(fault) => Err(fault),
     }
 }
 
 /// Settles all that was answered, and then writes what was told of it.
-fn settle_and_write<H: SettlingHandler, W: Sink>(
+fn settle_and_write<H: SettlingHandler, W: SettledSink<H>>(
     handler: &mut H,
     out: &mut Vec<u8>,
     end: &mut Vec<u8>,
     writer: &mut W,
 ) -> Result<(), SettledFault>
     requires ready { H.is_ready handler.old }
+    requires waits { Waits H.answers (out.old.items ++ end.old.items) handler.old }
     ensures ready { OnOk result (H.is_ready handler.new) }
     ensures settled { OnOk result (H.is_settled handler.new) }
     ensures rests { OnOk result (H.rests handler.old handler.new) }
-    ensures writes { OnOk result (Appends (W.contents writer.old) (W.contents writer.new) (out.old.items ++ end.old.items)) }
-    ensures stops { IfErr result (λ fault. (output : List ℕ) × Appends (W.contents writer.old) (W.contents writer.new) output
-        × StopsWriting H.rests H.stops H.is_settled handler.old (out.old.items ++ end.old.items) output handler.new × IsStop fault (W.has_failed writer.new)) }
+    ensures writes { OnOk result (Appends (W.taken writer.old) (W.taken writer.new) (out.old.items ++ end.old.items)) }
+    ensures stops { IfErr result (λ fault. (output : List ℕ) × Appends (W.taken writer.old) (W.taken writer.new) output
+        × StopsWriting H.rests H.stops H.is_settled handler.old (out.old.items ++ end.old.items) output handler.new × IsStop fault (W.is_broken writer.new)) }
     ensures nothing { OnOk result (out.new.items ≡ []) }
     ensures empty { OnOk result (end.new.items ≡ []) }
     ensures capacity { vec_capacity end.new ≡ vec_capacity end.old }
@@ -74,7 +76,7 @@ fn append_end(out: &mut Vec<u8>, end: &mut Vec<u8>) -> bool
 
 /// Puts the last part of an answer behind what was told. All is settled and written behind the last answer, where what is told gets
 /// much, and where there is no memory for more.
-fn take_settled<H: SettlingHandler, W: Sink>(
+fn take_settled<H: SettlingHandler, W: SettledSink<H>>(
     handler: &mut H,
     is_last: bool,
     out: &mut Vec<u8>,
@@ -82,12 +84,13 @@ fn take_settled<H: SettlingHandler, W: Sink>(
     writer: &mut W,
 ) -> Result<(), SettledFault>
     requires ready { H.is_ready handler.old }
+    requires waits { Waits H.answers (out.old.items ++ end.old.items) handler.old }
     ensures ready { OnOk result (H.is_ready handler.new) }
     ensures settled { OnOk result (is_last ≡ true → H.is_settled handler.new × (out.new.items ≡ [])) }
     ensures rested { OnOk result (Rested H.rests handler.old handler.new) }
-    ensures writes { OnOk result (WaitsOrSettles (W.contents writer.old) (W.contents writer.new) (out.old.items ++ end.old.items) out.new.items (H.is_settled handler.new)) }
-    ensures stops { IfErr result (λ fault. (output : List ℕ) × Appends (W.contents writer.old) (W.contents writer.new) output
-        × StopsWriting H.rests H.stops H.is_settled handler.old (out.old.items ++ end.old.items) output handler.new × IsStop fault (W.has_failed writer.new)) }
+    ensures writes { OnOk result (WaitsOrSettles (W.taken writer.old) (W.taken writer.new) (out.old.items ++ end.old.items) out.new.items (H.is_settled handler.new)) }
+    ensures stops { IfErr result (λ fault. (output : List ℕ) × Appends (W.taken writer.old) (W.taken writer.new) output
+        × StopsWriting H.rests H.stops H.is_settled handler.old (out.old.items ++ end.old.items) output handler.new × IsStop fault (W.is_broken writer.new)) }
     ensures empty { OnOk result (end.new.items ≡ []) }
     ensures capacity { vec_capacity end.new ≡ vec_capacity end.old }
 {
@@ -99,7 +102,7 @@ fn take_settled<H: SettlingHandler, W: Sink>(
 }
 
 /// Answers a frame. What is told of it stands behind what was told before, or all is settled and written, as it is behind the last frame.
-pub(crate) fn answer_settled<H: SettlingHandler, W: Sink>(
+pub(crate) fn answer_settled<H: SettlingHandler, W: SettledSink<H>>(
     handler: &mut H,
     frame: Option<&[u8]>,
     is_last: bool,
@@ -108,14 +111,15 @@ pub(crate) fn answer_settled<H: SettlingHandler, W: Sink>(
     writer: &mut W,
 ) -> Result<(), SettledFault>
     requires ready { H.is_ready handler.old }
+    requires waits { Waits H.answers out.old.items handler.old }
     requires empty { end.old.items ≡ [] }
     requires room { ANSWER_ROOM ≤ vec_capacity end.old }
     ensures ready { OnOk result (H.is_ready handler.new) }
     ensures settled { OnOk result (is_last ≡ true → H.is_settled handler.new × (out.new.items ≡ [])) }
     ensures answers { OnOk result ((text : List ℕ) × H.answers handler.old (option_map (λ bytes. bytes.now) frame.entry) text handler.new
-        × WaitsOrSettles (W.contents writer.old) (W.contents writer.new) (out.old.items ++ text) out.new.items (H.is_settled handler.new)) }
-    ensures stops { IfErr result (λ fault. (output : List ℕ) × Appends (W.contents writer.old) (W.contents writer.new) output
-        × StopsBehind H.answers H.stops H.is_settled handler.old (option_map (λ bytes. bytes.now) frame.entry ∷ []) out.old.items output handler.new × IsStop fault (W.has_failed writer.new)) }
+        × WaitsOrSettles (W.taken writer.old) (W.taken writer.new) (out.old.items ++ text) out.new.items (H.is_settled handler.new)) }
+    ensures stops { IfErr result (λ fault. (output : List ℕ) × Appends (W.taken writer.old) (W.taken writer.new) output
+        × StopsBehind H.answers H.stops H.is_settled handler.old (option_map (λ bytes. bytes.now) frame.entry ∷ []) out.old.items output handler.new × IsStop fault (W.is_broken writer.new)) }
     ensures empty { OnOk result (end.new.items ≡ []) }
     ensures room { ANSWER_ROOM ≤ vec_capacity end.new }
 {

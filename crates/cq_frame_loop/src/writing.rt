@@ -1,7 +1,7 @@
 //! Writing what is told, all of it or a prefix of it.
 ghost use Rattle.std.specs.Prelude.{◌≡◌, ◌++◌, [], true, false, vec_capacity, IfErr, OnOk};
 ghost use Rattle.std.specs.Io.KnownBytes.{Keeps};
-ghost use Rattle.cq_frame_loop.specs.within.Writes.{IsWriteFault, IsWriting, LeavesAt, Takes};
+ghost use Rattle.cq_frame_loop.specs.Writes.{IsWriteFault, IsWriting, LeavesAt, Takes};
 
 use crate::fault::LoopFault;
 use cq_lines::Sink;

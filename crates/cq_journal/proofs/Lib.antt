@@ -15,4 +15,6 @@ mod Refreshed
 mod Refused
 mod Refusals
 mod Regions
+mod Rooms
+mod Steps
 mod Survival

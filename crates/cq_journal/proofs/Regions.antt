@@ -184,6 +184,10 @@ pub each_left : (P : ℕ → Type 0) (ns : List ℕ) (g : ℕ) → Each P (ns ++
 each_left P [] g each = tt
 each_left P (n ∷ ns) g each = (each.0, each_left P ns g each.1)
 
+pub each_right : (P : ℕ → Type 0) (ns : List ℕ) (g : ℕ) → Each P (ns ++ g ∷ []) → P g
+each_right P [] g each = each.0
+each_right P (n ∷ ns) g each = each_right P ns g each.1
+
 pub append-none : (xs : List (List ℕ)) → xs ++ [] ≡ xs
 append-none [] = refl
 append-none (x ∷ xs) = ap (λ (ys : List (List ℕ)). x ∷ ys) (append-none xs)

@@ -8,6 +8,7 @@ use Rattle.cq_records.specs.Frames.{ends_with}
 use Rattle.cq_journal.specs.declared.journal.Journal.{Journal}
 use Rattle.cq_journal.specs.declared.number.TheConstants.{NUMBER_LIMIT}
 use Rattle.cq_journal.specs.Journal.{journal_device, journal_half, region_len}
+use Rattle.cq_journal.specs.Free.{HasRoomToOpen}
 use Rattle.cq_journal.specs.Regions.{Each, AreApart, AreSound, AreClosed, behind_of, regions_text}
 use Rattle.cq_journal.specs.Roots.{root_of, numbered, HasSoundHalves}
 
@@ -29,6 +30,10 @@ pub record IsIntactAt (half len number : ℕ) (closed : List ℕ) (growing : ℕ
 -- so it is with some number and some regions
 abbrev pub IsIntact : ℕ → ℕ → List ℕ → Type 0
 IsIntact half len bytes = (number : ℕ) × (closed : List ℕ) × (growing : ℕ) × (torn : TornWrites) × IsIntactAt half len number closed growing torn bytes
+
+-- so it is, and there is room to open them
+abbrev pub HasRoomBehind : ℕ → ℕ → List ℕ → Type 0
+HasRoomBehind half len bytes = (number : ℕ) × (closed : List ℕ) × (growing : ℕ) × (torn : TornWrites) × IsIntactAt half len number closed growing torn bytes × HasRoomToOpen half len (length bytes) number (closed ++ growing ∷ [])
 
 module _ {D : Type 0} {g : Ghosts D} where
   -- A crash at each moment from old to new leaves intact bytes, if those of old are intact.

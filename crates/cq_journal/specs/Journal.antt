@@ -7,8 +7,8 @@ use Rattle.cq_records.specs.declared.behind.Behind.TheVariants.{Zeros}
 use Rattle.cq_records.specs.Frames.{frames, all_sound, ends_with, HasMore, IsDamaged}
 use Rattle.cq_records.specs.Layout.{IsLog}
 use Rattle.cq_journal.specs.declared.journal.Journal.{Journal}
-use Rattle.cq_journal.specs.declared.journal.TheConstants.{REGION_LIMIT}
 use Rattle.cq_journal.specs.declared.number.TheConstants.{NUMBER_LIMIT}
+use Rattle.cq_journal.specs.Free.{HasRoomToOpen, IsFreeIn}
 use Rattle.cq_journal.specs.Regions.{Each, AreApart, behind_of, regions_text, records_at, regions_at}
 use Rattle.cq_journal.specs.Root.{IsRoot, root_device, root_half, root_number}
 use Rattle.cq_journal.specs.Roots.{root_of, numbered}
@@ -69,12 +69,12 @@ module _ {D : Type 0} {g : Ghosts D} where
     pub journal : IsJournal old → IsJournal new
 
   -- a region at this place lies behind the root, in the device and apart from all that count, and the root may name it
-  pub record IsFree (j : Journal D g) (place : ℕ) : Type 0 where
-    pub behind : journal_half j + journal_half j ≤ place
-    pub within : place + j.len ≤ length (g.seen (journal_device j))
-    pub small : place < NUMBER_LIMIT
-    pub apart : Each (λ n. AreApart j.len n place) (journal_places j)
-    pub few : length (journal_places j) < REGION_LIMIT
+  abbrev pub IsFree : Journal D g → ℕ → Type 0
+  IsFree j place = IsFreeIn (journal_half j) j.len (length (g.seen (journal_device j))) (journal_places j) place
+
+  -- there is room to open it again
+  abbrev pub HasRoomAgain : Journal D g → Type 0
+  HasRoomAgain j = HasRoomToOpen (journal_half j) j.len (length (g.seen (journal_device j))) (root_number j.root) (journal_places j)
 
   -- two regions that share no byte are free
   pub record HasSpare (j : Journal D g) : Type 0 where

@@ -4,6 +4,7 @@ pub mod Root
 pub mod Roots
 pub mod within
 pub mod Regions
+pub mod Free
 pub mod Journal
 pub mod Intact
 pub mod Base

@@ -49,6 +49,7 @@ impl<D: Device> Journal<D> {
         ensures half { IfOk result (λ journal. journal_half journal ≡ half) }
         ensures len { IfOk result (λ journal. region_len journal ≡ len) }
         ensures intact { IfOk result (λ journal. IsIntact half len (D.seen (journal_device journal))) }
+        ensures honest { IfOk result (λ journal. IsTrue (D.is_honest (journal_device journal)) → IsTrue (D.is_honest device)) }
     {
         let place = half + half;
         let torn = device.torn_writes();
@@ -127,7 +128,8 @@ impl<D: Device> Journal<D> {
     /// count: O(regions that count).
     pub(crate) fn is_free(&self, place: usize) -> bool
         requires { HasRegions self.now }
-        ensures { result ≡ true → IsFree self.now place }
+        ensures free { result ≡ true → IsFree self.now place }
+        ensures not { result ≡ false → IsFree self.now place → ⊥ }
     {
         let half = self.root.log.device.len;
         let whole = self.root.log.device.device.len();

@@ -40,5 +40,5 @@ pub use laws::{
 };
 pub use making::create;
 pub use number::NUMBER_LIMIT;
-pub use opening::{Found, find_root, has_grown, read_root};
+pub use opening::{Found, find_root, has_grown, read_half, read_root};
 pub use root::{ROOT_TEXT_LIMIT, Root};

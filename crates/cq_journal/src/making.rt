@@ -1,5 +1,5 @@
 //! How a root is made.
-ghost use Rattle.std.specs.Prelude.{◌≡◌, ◌+◌, ◌<◌, ◌≤◌, true, length, Some, IfOk};
+ghost use Rattle.std.specs.Prelude.{◌≡◌, ◌+◌, ◌<◌, ◌≤◌, true, length, Some, IfOk, IsTrue};
 ghost use Rattle.cq_records.specs.Frames.{is_plain};
 ghost use Rattle.cq_journal.specs.Root.{root_half, root_device, root_number, IsRoot};
 ghost use Rattle.cq_journal.specs.Roots.{root_of, numbered, HasSoundHalves};
@@ -25,6 +25,7 @@ pub fn create<D: Device>(
     ensures number { IfOk result (λ root. root_number root ≡ 1) }
     ensures text { IfOk result (λ root. root_of half (D.seen (root_device root)) ≡ Some (numbered 1 text.now)) }
     ensures sound { IfOk result (λ root. HasSoundHalves half (D.seen (root_device root))) }
+    ensures honest { IfOk result (λ root. IsTrue (D.is_honest (root_device root)) → IsTrue (D.is_honest device)) }
 {
     let batch = batch_of(alloc, 1, text)?;
     let mut device = device;

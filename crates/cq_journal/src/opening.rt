@@ -163,8 +163,11 @@ fn is_same(there: &Option<Vec<u8>>, bytes: &[u8]) -> bool
     }
 }
 
-/// The record of a half.
-fn read_half<D: Device>(alloc: Global, region: &mut Region<D>) -> Result<Option<Vec<u8>>, ReadFault>
+/// The record of a half, which is the region. `Damaged`: it hasn't its checksum. It takes memory for the record.
+pub fn read_half<D: Device>(
+    alloc: Global,
+    region: &mut Region<D>,
+) -> Result<Option<Vec<u8>>, ReadFault>
     ensures half { IfOk result (λ bytes. IsTrue (D.is_honest region.new.device)
         → half_of region.old.start region.old.len (D.seen region.old.device) ≡ items_of bytes) }
     ensures place { (region.new.start ≡ region.old.start) × (region.new.len ≡ region.old.len) }

@@ -1,11 +1,12 @@
 //! How a journal is opened after any crash.
-ghost use Rattle.std.specs.Prelude.{◌≡◌, ◌+◌, ◌<◌, ◌≤◌, length, Some, false, IsTrue, IfOk, IfSome, OnOk, IsErrOf};
+ghost use Rattle.std.specs.Prelude.{◌≡◌, ◌+◌, ◌*◌, ◌<◌, ◌≤◌, ℕ, ⊤, length, Some, false, IsTrue, IfOk, IfSome, MatchOption, OnOk, IsErrOf};
 ghost use Rattle.cq_disk.specs.Device.{LeavesOnly};
 ghost use Rattle.cq_disk.specs.Region.{part, Beside};
 ghost use Rattle.cq_records.specs.Frames.{records};
 ghost use Rattle.cq_records.specs.Layout.{IsLog};
 ghost use Rattle.cq_journal.specs.Histories.{OpensTo};
-ghost use Rattle.cq_journal.specs.Intact.{IsIntact};
+ghost use Rattle.cq_journal.specs.Intact.{HasRoomBehind, IsIntact};
+ghost use Rattle.cq_journal.specs.declared.number.TheConstants.{NUMBER_LIMIT};
 ghost use Rattle.cq_journal.specs.Refusals.{OpensIntact};
 ghost use Rattle.cq_journal.specs.Regions.{kept, HasRecords};
 ghost use Rattle.cq_journal.specs.Root.{root_half, root_device, root_number, IsRoot};
@@ -21,10 +22,11 @@ use std::alloc::Global;
 
 impl<D: Device> Journal<D> {
     ghost use Rattle.cq_journal.specs.Intact.{LeavesIntact, StaysIntact};
-    ghost use Rattle.cq_journal.specs.Journal.{HasRegions, IsJournal, IsFree, grows_soundly, journal_device, journal_half, journal_records, region_len};
+    ghost use Rattle.cq_journal.specs.Journal.{HasRegions, HasRoomAgain, IsJournal, IsFree, grows_soundly, journal_device, journal_half, journal_places, journal_records, region_len};
 
     /// Opens the journal of a device, with halves of the root and regions of these lengths, and makes it ready for records:
-    /// its records are those that the device had. `NoJournal`: there is no root. The calls that it makes one by one, `read_root`,
+    /// its records are those that the device had. `NoJournal`: there is no root. `Full`: no region is free, or the root has no room to name
+    /// it. The calls that it makes one by one, `read_root`,
     /// `Root::at`, `at` and `recover`, say what a crash in them leaves.
     pub fn open(alloc: Global, device: D, half: usize, len: usize) -> Result<Journal<D>, OpenFault>
         requires { half + half ≤ length (D.seen device) }
@@ -39,6 +41,7 @@ impl<D: Device> Journal<D> {
         // It refuses intact bytes only where a read has given others: `last` is the device as the calls on it have left it.
         ensures damaged { IsErrOf result OpenFault.Damaged → (last : D) × (IsTrue (D.is_honest last) → IsIntact half len (D.seen device) → ⊥) }
         ensures nothing { IsErrOf result OpenFault.NoJournal → (last : D) × (IsTrue (D.is_honest last) → IsIntact half len (D.seen device) → ⊥) }
+        ensures full { IsErrOf result OpenFault.Full → (last : D) × (IsTrue (D.is_honest last) → HasRoomBehind half len (D.seen device) → ⊥) }
     {
         let _len = device.len();
         let mut region = Region {
@@ -72,6 +75,7 @@ impl<D: Device> Journal<D> {
         ensures kept { IfOk result (λ journal. IsTrue (D.is_honest (journal_device journal)) → kept (journal_half journal) (region_len journal) (D.seen (journal_device journal)) ≡ Some (journal_records journal)) }
         ensures damaged { IsErrOf result OpenFault.Damaged → IsTrue (D.is_honest (root_device root)) → IsIntact (root_half root) len (D.seen (root_device root)) → ⊥ }
         ensures nothing { IsErrOf result OpenFault.NoJournal → ⊥ }
+        ensures full { IsErrOf result OpenFault.Full → ⊥ }
         ensures device { IfOk result (λ journal. (journal_device journal ≡ root_device root) × (journal_half journal ≡ root_half root) × (region_len journal ≡ len)) }
     {
         let torn = torn_in(&found.bytes);
@@ -106,7 +110,8 @@ impl<D: Device> Journal<D> {
     /// as a root can name. O(regions that count), for each region of the device up to that one.
     pub fn free_region(&self) -> Option<usize>
         requires { HasRegions self.now }
-        ensures { IfSome result (λ place. IsFree self.now place) }
+        ensures free { IfSome result (λ place. IsFree self.now place) }
+        ensures none { MatchOption result (0 < region_len self.now → (k : ℕ) → IsFree self.now ((journal_half self.now + journal_half self.now) + k * region_len self.now) → ⊥) (λ _. ⊤) }
     {
         let half = self.root.log.device.len;
         let whole = self.root.log.device.device.len();
@@ -137,6 +142,7 @@ impl<D: Device> Journal<D> {
         ensures stays { OnOk result (StaysIntact self.old self.new) }
         ensures honest { IsTrue (D.is_honest (journal_device self.new)) → IsTrue (D.is_honest (journal_device self.old)) }
         ensures full { IsErrOf result OpenFault.Full → self.new ≡ self.old }
+        ensures crowded { IsErrOf result OpenFault.Full → HasRoomAgain self.old → ⊥ }
         ensures damaged { IsErrOf result OpenFault.Damaged → IsTrue (D.is_honest (journal_device self.new)) → grows_soundly self.old ≡ false }
         ensures refused { IsErrOf result OpenFault.Damaged → IsTrue (D.is_honest (journal_device self.new)) → IsIntact (journal_half self.old) (region_len self.old) (D.seen (journal_device self.old)) → ⊥ }
         ensures nothing { IsErrOf result OpenFault.NoJournal → ⊥ }
@@ -162,6 +168,7 @@ impl<D: Device> Journal<D> {
         ensures stays { OnOk result (StaysIntact self.old self.new) }
         ensures honest { IsTrue (D.is_honest (journal_device self.new)) → IsTrue (D.is_honest (journal_device self.old)) }
         ensures full { IsErrOf result OpenFault.Full → self.new ≡ self.old }
+        ensures crowded { IsErrOf result OpenFault.Full → (root_number self.old.root + 1 < NUMBER_LIMIT) × (5 * length (journal_places self.old) + 15 ≤ journal_half self.old) → ⊥ }
         ensures damaged { IsErrOf result OpenFault.Damaged → IsTrue (D.is_honest (journal_device self.new)) → grows_soundly self.old ≡ false }
         ensures nothing { IsErrOf result OpenFault.NoJournal → ⊥ }
         ensures failed { IsErrOf result OpenFault.Failed → D.faults (journal_device self.old) < D.faults (journal_device self.new) }

@@ -43,7 +43,7 @@ piece_ended piece front behind stage none =
 
 -- ---- an entry
 
-abbrev next_entry : Option stores.StoreKept → List Entry → Result Entry WireFault → Result Stage WireFault
+abbrev pub next_entry : Option stores.StoreKept → List Entry → Result Entry WireFault → Result Stage WireFault
 next_entry base entries got = got >>= λ entry. Ok (listing base (entries ++ entry ∷ []))
 
 pub entry_ended : (piece bytes : List ℕ) (entry : Entry) (base : Option stores.StoreKept) (entries : List Entry) → unstuffed false piece ≡ Ok bytes → whole_at entry_at bytes ≡ Ok entry

@@ -4,7 +4,7 @@ use Rattle.std.specs.Prelude.{IsTrue, OnOk}
 use Rattle.cq_base.specs.declared.ask.Entry.{Entry}
 use Rattle.cq_disk.specs.Device.{LeavesOnly}
 use Rattle.cq_disk.specs.declared.device.Device.{Ghosts}
-use Rattle.cq_disk.proofs.Moments.{weakened}
+use Rattle.cq_disk.proofs.Moments.{runs_on, weakened}
 use Rattle.cq_journal.specs.Changes.{replaces}
 use Rattle.cq_journal.specs.Histories.{Tries}
 use Rattle.cq_journal.specs.Journal.{IsJournal, journal_device}
@@ -27,6 +27,10 @@ use Rattle.cq_kept_entries.proofs.Readings.{piece_ended, read_both, store_fed}
 pub if_ok : {T E P Q : Type 0} (r : Result T E) → OnOk r P → (P → Q) → OnOk r Q
 if_ok (Ok x) p next = next p
 if_ok (Err e) p next = tt
+
+pub on_ok : {T E P : Type 0} (r : Result T E) → P → OnOk r P
+on_ok (Ok x) p = p
+on_ok (Err e) p = tt
 
 -- ---- pieces
 
@@ -76,6 +80,25 @@ module _ {D : Type 0} {g : Ghosts D} where
       → LeavesOnly g.moment g.left_since (entries_device a) (journal_device b) (λ c. BytesStandFor (entries_half a) (entries_len a) c all)
   moments_rest a b rests honest all stands =
       weakened g.moment g.left_since (entries_device a) (journal_device b) _ _ (rests.moments honest) (λ c has. record { records = kept_records a; has = has; are = stands })
+
+  pub kept_rests : (a b : KeptEntries D g) → IsJournal b.journal → Rests a.journal b.journal → added_text b ≡ added_text a → IsKept a → IsKept b
+  kept_rests a b journal rests text k = record {
+    journal = journal;
+    listing = λ honest. subst (λ (rs : List (List ℕ)). IsListing (read start (joined rs))) (sym rests.records) (k.listing (rests.honest honest));
+    added = k.added;
+    are = subst (λ (l : List ℕ). ArePiecesOf l k.added) (sym text) k.are;
+  }
+
+  -- what leaves these entries, and then no call
+  pub moments_then_rest : (a b c : KeptEntries D g) → entries_half b ≡ entries_half a → entries_len b ≡ entries_len a → Rests b.journal c.journal → IsTrue (g.is_honest (entries_device c)) → (all : List Entry)
+      → LeavesOnly g.moment g.left_since (entries_device a) (entries_device b) (λ l. BytesStandFor (entries_half a) (entries_len a) l all) → StandsFor b all
+      → LeavesOnly g.moment g.left_since (entries_device a) (entries_device c) (λ l. BytesStandFor (entries_half a) (entries_len a) l all)
+  moments_then_rest a b c half len rests honest all first stands =
+      let P : List ℕ → Type 0 = λ l. BytesStandFor (entries_half a) (entries_len a) l all in
+      runs_on g.moment g.left_since (entries_device a) (entries_device b) (entries_device c) P first
+      (weakened g.moment g.left_since (entries_device b) (entries_device c) (λ l. BytesStandFor (entries_half b) (entries_len b) l all) P
+      (moments_rest b c.journal rests honest all stands)
+      (λ l left. subst (λ h. BytesStandFor h (entries_len a) l all) half (subst (λ n. BytesStandFor (entries_half b) n l all) len left)))
 
 -- a chunk that was fed has a byte
 pub fed_some : (chunk : List ℕ) (state next : State) → fed chunk state ≡ Ok next → chunk ≡ [] → ⊥

@@ -7,7 +7,7 @@ use Rattle.cq_journal.specs.Journal.{IsJournal, journal_device, journal_half, jo
 use Rattle.cq_journal.specs.Regions.{kept}
 use Rattle.cq_records.specs.Frames.{joined}
 use Rattle.cq_kept_entries.specs.declared.kept.KeptEntries.{KeptEntries}
-use Rattle.cq_kept_entries.specs.Pieces.{AreOf, ArePiecesOf, IsListing, is_fresh, read, start}
+use Rattle.cq_kept_entries.specs.Pieces.{AreOf, ArePiecesOf, AreTaken, IsListing, is_fresh, read, start}
 
 -- the record with which entries begin that have no base
 abbrev pub head : List ℕ
@@ -22,6 +22,10 @@ pub record BytesStandFor (half len : ℕ) (bytes : List ℕ) (all : List Entry) 
   pub records : List (List ℕ)
   pub has : kept half len bytes ≡ Some records
   pub are : AreOf (joined records) all
+
+-- they have records that stand for some entries which a store takes
+abbrev pub StandForSome : ℕ → ℕ → List ℕ → Type 0
+StandForSome half len bytes = (all : List Entry) × (BytesStandFor half len bytes all × AreTaken all)
 
 -- a text as a record; none, if it is empty
 abbrev pub text_records : List ℕ → List (List ℕ)
@@ -53,6 +57,10 @@ module _ {D : Type 0} {g : Ghosts D} where
   -- they stand for these entries
   abbrev pub StandsFor : KeptEntries D g → List Entry → Type 0
   StandsFor k all = AreOf (kept_bytes k) all
+
+  -- they stand for some entries which a store takes
+  abbrev pub StandsForSome : KeptEntries D g → Type 0
+  StandsForSome k = (all : List Entry) × (StandsFor k all × AreTaken all)
 
   -- the pieces of those that were added and aren't kept yet
   abbrev pub added_text : KeptEntries D g → List ℕ

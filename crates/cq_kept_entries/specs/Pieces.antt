@@ -1,9 +1,11 @@
 -- What is kept: entries alone, or a base, which stands for those before, and the entries behind it.
 -- It is pieces, each with a line feed behind it. The first one says what comes: a byte of 2, and E or S. Behind E come entries. Behind S come
 -- the chunks of a store, in their order, and an empty piece, and then entries. All but the first and the empty one are stuffed texts.
-use Rattle.std.specs.Prelude.{◌≡◌, ℕ, ◌==◌, Bool, true, false, List, [], ◌∷◌, ◌++◌, Option, None, Some, Result, Ok, Err, if◌then◌else◌}
+use Rattle.std.specs.Prelude.{◌≡◌, ◌≤◌, ℕ, ◌==◌, Bool, true, false, List, [], ◌∷◌, ◌++◌, length, Option, None, Some, Result, Ok, Err, if◌then◌else◌}
 use Rattle.cq_base.specs.declared.ask.Entry.{Entry}
+use Rattle.cq_base.specs.declared.limits.TheConstants.{HISTORY_LIMIT}
 use Rattle.cq_kept_base.specs.Stuffed.{unstuffed}
+use Rattle.cq_store.specs.Laws.{Stamped}
 use Rattle.cq_store.specs.Stands as stores
 use Rattle.cq_store_wire.specs.declared.build.State.{State}
 use Rattle.cq_store_wire.specs.declared.build.State.TheVariants as states
@@ -99,6 +101,11 @@ MeansAt a all = (a.piece ≡ []) × Means a.stage all
 -- What is kept stands for these entries, from the first one on. Of those before a base it only says that its store stands for them.
 abbrev pub AreOf : List ℕ → List Entry → Type 0
 AreOf bytes all = MeansAt (read start bytes) all
+
+-- A store takes them one by one: none is stamped with an earlier moment than one before it, and they are no more than it counts.
+pub record AreTaken (all : List Entry) : Type 0 where
+  pub stamped : Stamped all
+  pub few : length all ≤ HISTORY_LIMIT
 
 -- entries may come next
 abbrev pub is_listing : Stage → Bool

@@ -1,4 +1,7 @@
 //! Why a journal of entries wasn't begun.
+ghost use Rattle.std.specs.Prelude.{◌≡◌};
+ghost use Rattle.cq_kept_entries.specs.Faults.{start_fault_of_read};
+ghost use Rattle.cq_kept_entries.specs.declared.fault.StartFault.TheVariants as faults;
 
 use cq_base::NoMemory;
 use cq_journal::{OpenFault, RegionFault};
@@ -28,24 +31,32 @@ pub enum StartFault {
 }
 
 impl From<OpenFault> for StartFault {
+    ghost from_gives = { λ fault it. it ≡ faults.Open fault };
+
     fn from(fault: OpenFault) -> StartFault {
         StartFault::Open(fault)
     }
 }
 
 impl From<RegionFault> for StartFault {
+    ghost from_gives = { λ fault it. it ≡ faults.Read fault };
+
     fn from(fault: RegionFault) -> StartFault {
         StartFault::Read(fault)
     }
 }
 
 impl From<LogFault> for StartFault {
+    ghost from_gives = { λ fault it. it ≡ faults.Write fault };
+
     fn from(fault: LogFault) -> StartFault {
         StartFault::Write(fault)
     }
 }
 
 impl From<ReadFault> for StartFault {
+    ghost from_gives = { λ fault it. it ≡ start_fault_of_read fault };
+
     fn from(fault: ReadFault) -> StartFault {
         match fault {
             ReadFault::NoMemory => StartFault::NoMemory,
@@ -55,18 +66,24 @@ impl From<ReadFault> for StartFault {
 }
 
 impl From<NoMemory> for StartFault {
+    ghost from_gives = { λ _ it. it ≡ faults.NoMemory };
+
     fn from(_fault: NoMemory) -> StartFault {
         StartFault::NoMemory
     }
 }
 
 impl From<AllocError> for StartFault {
+    ghost from_gives = { λ _ it. it ≡ faults.NoMemory };
+
     fn from(_error: AllocError) -> StartFault {
         StartFault::NoMemory
     }
 }
 
 impl<T: Drop> From<AllocFailed<T>> for StartFault {
+    ghost from_gives = { λ _ it. it ≡ faults.NoMemory };
+
     fn from(_error: AllocFailed<T>) -> StartFault {
         StartFault::NoMemory
     }

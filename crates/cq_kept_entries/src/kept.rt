@@ -31,6 +31,10 @@ pub struct KeptEntries<D: Device> {
     pub(crate) text: Vec<u8>,
     /// When the next rewrite is due.
     pub(crate) schedule: Schedule,
+    /// How many regions the device has surely space for: since the first free one is always taken, these are the first ones.
+    pub(crate) with_space: usize,
+    /// Whether the device had no space for the next region.
+    pub(crate) lacks_space: bool,
 }
 
 /// Most entries have fewer bytes than that, and so have their pieces.

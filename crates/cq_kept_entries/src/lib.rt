@@ -9,6 +9,7 @@ mod laws;
 mod reader;
 mod rewriting;
 mod room;
+mod space;
 mod starting;
 
 pub use class::{EntryClass, class_of};

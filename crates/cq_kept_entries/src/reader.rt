@@ -1,9 +1,10 @@
 //! What is kept, as it is read.
-ghost use Rattle.std.specs.Prelude.{◌≡◌, ◌++◌, [], ◌∷◌, ℕ, List, None, length, IfOk, MatchOption};
+ghost use Rattle.std.specs.Prelude.{◌≡◌, ◌⊎◌, ◌≤◌, ◌<◌, ◌++◌, [], ◌∷◌, ℕ, List, None, length, IfErr, IfOk, MatchOption};
 ghost use Rattle.cq_base.specs.declared.ask.Entry as base;
-ghost use Rattle.cq_store.specs.Stands.{StandsFor};
-ghost use Rattle.cq_kept_entries.specs.Pieces.{At, Stage, at, ended, fresh, head_of, listing, read, start, storing};
-ghost use Rattle.cq_kept_entries.specs.within.Readers.{IsListed, IsMade, IsReader};
+ghost use Rattle.cq_base.specs.declared.limits.TheConstants.{HISTORY_LIMIT};
+ghost use Rattle.cq_store.specs.Stands.{StandsFor, count_of, last_of};
+ghost use Rattle.cq_kept_entries.specs.Pieces.{At, MeansAt, Stage, at, bad, ended, fresh, head_of, listing, read, start, storing};
+ghost use Rattle.cq_kept_entries.specs.within.Readers.{IfBad, IsListed, IsMade, IsReader, IsRefused};
 
 use cq_base::{Entry, HISTORY_LIMIT, NoMemory};
 use cq_kept_base::unstuffed;
@@ -46,7 +47,8 @@ fn bad() -> ReadFault {
 
 /// An empty store, to which entries come.
 fn list_none(alloc: Global) -> Result<Progress, ReadFault>
-    ensures { IfOk result (λ progress. IsMade (listing None []) progress) }
+    ensures made { IfOk result (λ progress. IsMade (listing None []) progress) }
+    ensures refused { IfErr result (λ fault. IfBad fault ⊥) }
 {
     match Store::new(alloc) {
         Ok(store) => Ok(Progress::Listing(store)),
@@ -56,7 +58,8 @@ fn list_none(alloc: Global) -> Result<Progress, ReadFault>
 
 /// The first piece has ended.
 fn begin(alloc: Global, piece: &[u8]) -> Result<Progress, ReadFault>
-    ensures { IfOk result (λ progress. IsMade (head_of piece.now) progress) }
+    ensures made { IfOk result (λ progress. IsMade (head_of piece.now) progress) }
+    ensures refused { IfErr result (λ fault. IfBad fault (head_of piece.now ≡ bad)) }
 {
     match piece {
         [mark, letter] => {
@@ -77,7 +80,8 @@ fn begin(alloc: Global, piece: &[u8]) -> Result<Progress, ReadFault>
 
 /// A piece of a base has ended: a chunk of its store, or the empty one behind them.
 fn store_piece(alloc: Global, reader: StoreReader, piece: &[u8]) -> Result<Progress, ReadFault>
-    ensures { IfOk result (λ progress. IsMade (ended piece.now (storing reader)) progress) }
+    ensures made { IfOk result (λ progress. IsMade (ended piece.now (storing reader)) progress) }
+    ensures refused { IfErr result (λ fault. IfBad fault (ended piece.now (storing reader) ≡ bad)) }
 {
     if piece.is_empty() {
         return Ok(Progress::Listing(reader.store()?));
@@ -88,7 +92,8 @@ fn store_piece(alloc: Global, reader: StoreReader, piece: &[u8]) -> Result<Progr
 
 /// The store with one more entry. A fault: it comes too early, or there is no room for one in a store.
 fn with_entry(store: Store, entry: &Entry) -> Result<Store, ReadFault>
-    ensures { (entries : List base.Entry) → StandsFor store entries → IfOk result (λ next. StandsFor next (entries ++ entry.now ∷ [])) }
+    ensures next { (entries : List base.Entry) → StandsFor store entries → IfOk result (λ next. StandsFor next (entries ++ entry.now ∷ [])) }
+    ensures refused { IfErr result (λ fault. IfBad fault ((HISTORY_LIMIT ≤ count_of store) ⊎ (entry.now.moment < last_of store))) }
 {
     if store.count() >= HISTORY_LIMIT || entry.moment < store.last() {
         return Err(ReadFault::Bad(WireFault::BadNumber));
@@ -102,7 +107,8 @@ fn with_entry(store: Store, entry: &Entry) -> Result<Store, ReadFault>
 
 /// A piece of an entry has ended.
 fn list_piece(alloc: Global, store: Store, piece: &[u8]) -> Result<Progress, ReadFault>
-    ensures { (stage : Stage) → IsListed stage store → IfOk result (λ progress. IsMade (ended piece.now stage) progress) }
+    ensures made { (stage : Stage) → IsListed stage store → IfOk result (λ progress. IsMade (ended piece.now stage) progress) }
+    ensures refused { (stage : Stage) → IsListed stage store → IfErr result (λ fault. IfBad fault (IsRefused (at [] (ended piece.now stage)))) }
 {
     let bytes = unstuffed(alloc, piece)?;
     let entry = read_entry(alloc, &bytes)?;
@@ -112,7 +118,8 @@ fn list_piece(alloc: Global, store: Store, piece: &[u8]) -> Result<Progress, Rea
 impl Progress {
     /// With one piece more.
     fn with_piece(self, alloc: Global, piece: &[u8]) -> Result<Progress, ReadFault>
-        ensures { (stage : Stage) → IsMade stage self → IfOk result (λ progress. IsMade (ended piece.now stage) progress) }
+        ensures made { (stage : Stage) → IsMade stage self → IfOk result (λ progress. IsMade (ended piece.now stage) progress) }
+        ensures refused { (stage : Stage) → IsMade stage self → IfErr result (λ fault. IfBad fault (IsRefused (at [] (ended piece.now stage)))) }
     {
         match self {
             Progress::Fresh => begin(alloc, piece),
@@ -157,7 +164,8 @@ impl EntriesReader {
 
     /// The piece that has begun ends.
     fn end_piece(self) -> Result<EntriesReader, ReadFault>
-        ensures { (a : At) → IsReader a self → IfOk result (λ reader. IsReader (at [] (ended a.piece a.stage)) reader) }
+        ensures made { (a : At) → IsReader a self → IfOk result (λ reader. IsReader (at [] (ended a.piece a.stage)) reader) }
+        ensures refused { (a : At) → IsReader a self → IfErr result (λ fault. IfBad fault (IsRefused (at [] (ended a.piece a.stage)))) }
     {
         let EntriesReader {
             alloc,
@@ -177,7 +185,8 @@ impl EntriesReader {
 
     /// The piece goes on with these bytes.
     fn with_front(self, front: &[u8]) -> Result<EntriesReader, ReadFault>
-        ensures { IfOk result (λ reader. (reader.piece.items ≡ self.piece.items ++ front.now) × (reader.progress ≡ self.progress)) }
+        ensures on { IfOk result (λ reader. (reader.piece.items ≡ self.piece.items ++ front.now) × (reader.progress ≡ self.progress)) }
+        ensures refused { IfErr result (λ fault. IfBad fault ⊥) }
     {
         let mut reader = self;
         reader.piece.extend_from_slice(front)?;
@@ -186,7 +195,8 @@ impl EntriesReader {
 
     /// Reads bytes more. What they make is in memory: a store, and one piece of it twice.
     pub(crate) fn feed(self, bytes: &[u8]) -> Result<EntriesReader, ReadFault>
-        ensures { (a : At) → IsReader a self → IfOk result (λ reader. IsReader (read a bytes.now) reader) }
+        ensures made { (a : At) → IsReader a self → IfOk result (λ reader. IsReader (read a bytes.now) reader) }
+        ensures refused { (a : At) → IsReader a self → IfErr result (λ fault. IfBad fault (IsRefused (read a bytes.now))) }
     {
         let mut reader = self;
         let mut rest = bytes;
@@ -199,7 +209,8 @@ impl EntriesReader {
 
     /// The store of all that was read. `None`: nothing was. A fault: a piece has begun, or a base hasn't ended.
     pub(crate) fn into_store(self) -> Result<Option<Store>, ReadFault>
-        ensures { (a : At) → IsReader a self → IfOk result (λ store. (a.piece ≡ []) × MatchOption store (a.stage ≡ fresh) (λ s. IsListed a.stage s)) }
+        ensures made { (a : At) → IsReader a self → IfOk result (λ store. (a.piece ≡ []) × MatchOption store (a.stage ≡ fresh) (λ s. IsListed a.stage s)) }
+        ensures refused { (a : At) → IsReader a self → IfErr result (λ fault. IfBad fault ((all : List base.Entry) → MeansAt a all → ⊥)) }
     {
         let EntriesReader {
             piece,

@@ -192,6 +192,8 @@ impl<D: Device> KeptEntries<D> {
             Ok(()) => {
                 let used = self.used();
                 self.schedule.rewritten(used, messages, entries);
+                // (the regions that are free now have space)
+                self.lacks_space = false;
                 Ok(true)
             }
             Err(LogFault::Full) => {

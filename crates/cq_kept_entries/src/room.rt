@@ -15,7 +15,7 @@ impl<D: Device> KeptEntries<D> {
 
     /// Whether there is room for an entry of this class whose piece has at most so many bytes, behind those that were added: in the
     /// region that grows, with what is kept there for entries of the other classes, or in the next region, where one more is left for
-    /// an opening or a rewrite. One that adds something has to leave space for a base, too.
+    /// an opening or a rewrite and the device didn't lack the space. One that adds something has to leave space for a base, too.
     pub fn has_room(&self, class: EntryClass, len: usize) -> bool
         requires journal { IsJournal (entries_journal self.now) }
         requires short { len ≤ TEXT_LIMIT }
@@ -29,6 +29,9 @@ impl<D: Device> KeptEntries<D> {
         let reserve = reserve_of(class, self.journal.region_size());
         if reserve <= left && self.text.len() + len + HEAD_LENGTH <= left - reserve {
             return true;
+        }
+        if self.lacks_space {
+            return false;
         }
         self.journal.has_spare()
     }

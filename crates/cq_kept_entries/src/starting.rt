@@ -1,15 +1,17 @@
 //! How a journal of entries begins, and goes on behind what was kept.
-ghost use Rattle.std.specs.Prelude.{◌≡◌, ◌⊎◌, ◌≤◌, ◌<◌, ◌+◌, ◌++◌, [], ◌∷◌, ℕ, List, length, Some, IsTrue, IfOk, OnOk};
+ghost use Rattle.std.specs.Prelude.{◌≡◌, ◌⊎◌, ◌≤◌, ◌<◌, ◌+◌, ◌++◌, [], ◌∷◌, ℕ, List, length, Some, IsTrue, IfErr, IfOk, OnOk};
 ghost use Rattle.cq_base.specs.declared.ask.Entry as base;
 ghost use Rattle.cq_disk.specs.Device.{LeavesOnly};
 ghost use Rattle.cq_journal.specs.Base.{HasEitherRecords};
 ghost use Rattle.cq_journal.specs.Changes.{adds};
 ghost use Rattle.cq_journal.specs.Histories.{Tries};
+ghost use Rattle.cq_journal.specs.Intact.{IsIntact};
 ghost use Rattle.cq_journal.specs.Journal.{IsJournal};
 ghost use Rattle.cq_journal.specs.Regions.{kept};
 ghost use Rattle.cq_journal.specs.Rests.{Rests};
 ghost use Rattle.cq_store.specs.Stands as stores;
-ghost use Rattle.cq_kept_entries.specs.Kept.{BytesStandFor, head, headed};
+ghost use Rattle.cq_kept_entries.specs.Faults.{HasReason, IsOfCall};
+ghost use Rattle.cq_kept_entries.specs.Kept.{BytesStandFor, StandForSome, head, headed};
 ghost use Rattle.cq_kept_entries.specs.Pieces.{read, start};
 ghost use Rattle.cq_kept_entries.specs.within.Readers.{IsReader};
 
@@ -24,7 +26,7 @@ use cq_store::Store;
 use std::alloc::Global;
 
 impl<D: Device> KeptEntries<D> {
-    ghost use Rattle.cq_kept_entries.specs.Kept.{HasAdded, IsKept, StandsFor, added_text, entries_device, entries_half, entries_journal, entries_len, kept_bytes, kept_records};
+    ghost use Rattle.cq_kept_entries.specs.Kept.{HasAdded, IsKept, StandsFor, StandsForSome, added_text, entries_device, entries_half, entries_journal, entries_len, kept_bytes, kept_records};
 
     /// Makes a journal of entries on a device: a root of two halves of this length, and behind it one region of this length. Whatever
     /// the device has is lost. `Write(Full)`: it is too short.
@@ -40,6 +42,8 @@ impl<D: Device> KeptEntries<D> {
         ensures empty { IfOk result (λ kept. StandsFor kept []) }
         ensures settled { IfOk result (λ kept. HasAdded kept []) }
         ensures lengths { IfOk result (λ kept. (entries_half kept ≡ half) × (entries_len kept ≡ len)) }
+        ensures honest { IfOk result (λ kept. IsTrue (D.is_honest (entries_device kept)) → IsTrue (D.is_honest device)) }
+        ensures refused { IfErr result IsOfCall }
     {
         let behind = device.len().saturating_sub(half).saturating_sub(half);
         let mut journal = Journal::create(alloc, device, half, len)?;
@@ -69,6 +73,9 @@ impl<D: Device> KeptEntries<D> {
         // A crash at any moment leaves what it might have left before, or what stands for the same entries.
         ensures any_moment { IfOk result (λ opened. IsTrue (D.is_honest (entries_device opened.0)) → (all : List base.Entry) → BytesStandFor half len (D.seen device) all
             → LeavesOnly D.moment D.left_since device (entries_device opened.0) (λ c. D.may_leave device c ⊎ BytesStandFor half len c all)) }
+
+        // What it refuses, it refuses for a reason: `last` is the device as the calls on it have left it.
+        ensures refused { IfErr result (λ fault. (last : D) × (IsTrue (D.is_honest last) → HasReason fault (IsIntact half len (D.seen device)) (StandForSome half len (D.seen device)))) }
     {
         let behind = device.len().saturating_sub(half).saturating_sub(half);
         let journal = Journal::open(alloc, device, half, len)?;
@@ -91,6 +98,8 @@ impl<D: Device> KeptEntries<D> {
             journal,
             text: Vec::new(alloc),
             schedule: Schedule::new(ChainSize::one(), len, behind),
+            with_space: 0,
+            lacks_space: false,
         }
     }
 
@@ -101,6 +110,7 @@ impl<D: Device> KeptEntries<D> {
         ensures journal { IsJournal (entries_journal self.new) }
         ensures rests { Rests (entries_journal self.old) (entries_journal self.new) }
         ensures text { added_text self.new ≡ added_text self.old }
+        ensures refused { IfErr result (λ fault. IsTrue (D.is_honest (entries_device self.new)) → HasReason fault (IsIntact (entries_half self.old) (entries_len self.old) (D.seen (entries_device self.old))) (StandsForSome self.old)) }
         ensures read { IfOk result (λ reader. IsTrue (D.is_honest (entries_device self.new)) → IsReader (read start (kept_bytes self.old)) reader) }
     {
         let mut text = Vec::new(self.alloc);
@@ -128,6 +138,7 @@ impl<D: Device> KeptEntries<D> {
         ensures records { OnOk result (IsTrue (D.is_honest (entries_device self.new)) → kept_records self.new ≡ headed (kept_records self.old)) }
         ensures stands { OnOk result (IsTrue (D.is_honest (entries_device self.new)) → (all : List base.Entry) → StandsFor self.old all → StandsFor self.new all) }
         ensures store { IfOk result (λ store. IsTrue (D.is_honest (entries_device self.new)) → (all : List base.Entry) → StandsFor self.new all → stores.StandsFor store all) }
+        ensures refused { IfErr result (λ fault. IsTrue (D.is_honest (entries_device self.new)) → HasReason fault (IsIntact (entries_half self.old) (entries_len self.old) (D.seen (entries_device self.old))) (StandsForSome self.old)) }
         ensures any_moment { OnOk result (IsTrue (D.is_honest (entries_device self.new)) → LeavesOnly D.moment D.left_since (entries_device self.old) (entries_device self.new)
             (HasEitherRecords (entries_half self.old) (entries_len self.old) (kept_records self.old) (headed (kept_records self.old)))) }
     {
@@ -149,6 +160,7 @@ impl<D: Device> KeptEntries<D> {
         ensures honest { IsTrue (D.is_honest (entries_device self.new)) → IsTrue (D.is_honest (entries_device self.old)) }
         ensures tries { OnOk result (Tries (adds (head ∷ [])) (entries_journal self.old) (entries_journal self.new)) }
         ensures store { IfOk result (λ store. stores.StandsFor store []) }
+        ensures refused { IfErr result IsOfCall }
     {
         let store = Store::new(self.alloc)?;
         append_record(&mut self.journal, self.alloc, &HEAD)?;

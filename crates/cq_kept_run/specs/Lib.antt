@@ -1,2 +1,4 @@
 pub mod Faults
+pub mod Reasons
+pub mod Servers
 pub mod within

@@ -5,4 +5,4 @@ pub mod Entries
 pub mod Looks
 pub mod Runs
 pub mod Told
-pub mod Servers
+pub mod Unmade

@@ -50,6 +50,8 @@ pub fn copy(rt: &HostRuntime, path: &str, to: &str) -> Result<(), KeptFault> {
         return Err(KeptFault::from(NoMemory));
     };
     create(rt, to, 0)?;
+    // It is in use until the copy has its name: else a start would take it for a file whose making was cut short.
+    let _named = open(rt, to, TornWrites::OldOrNew, Unknown)?;
     if let Err(fault) = make(rt, &source, part.as_str(), len) {
         let _ = remove(rt, to);
         return Err(fault);

@@ -1,6 +1,8 @@
 //! Why a session with a journal ends.
 ghost use Rattle.std.specs.Prelude.{◌≡◌};
 ghost use Rattle.cq_kept_run.specs.Faults.{code_of, name_of};
+ghost use Rattle.cq_kept_run.specs.Reasons.{IsOfKept, IsOfLoop, IsOfStart, kept_of_device, kept_of_log, kept_of_open, kept_of_region, kept_of_start};
+ghost use Rattle.cq_kept_run.specs.declared.fault.KeptFault.TheVariants as kept;
 
 use cq_base::NoMemory;
 use cq_disk::{DeviceFault, OpenFault as FileFault};
@@ -72,6 +74,8 @@ pub enum ServerFault {
 }
 
 impl From<KeptFault> for ServerFault {
+    ghost from_gives = { λ fault it. IsOfKept fault it };
+
     fn from(fault: KeptFault) -> ServerFault {
         match fault {
             KeptFault::Script(fault) => ServerFault::from(fault),
@@ -81,6 +85,8 @@ impl From<KeptFault> for ServerFault {
 }
 
 impl From<ScriptFault> for ServerFault {
+    ghost from_gives = { λ _ it. IsOfLoop it };
+
     fn from(fault: ScriptFault) -> ServerFault {
         match fault {
             ScriptFault::ReadFailed => ServerFault::Loop(LoopFault::ReadFailed),
@@ -91,18 +97,24 @@ impl From<ScriptFault> for ServerFault {
 }
 
 impl From<DeviceFault> for ServerFault {
+    ghost from_gives = { λ fault it. IsOfKept (kept_of_device fault) it };
+
     fn from(fault: DeviceFault) -> ServerFault {
         ServerFault::from(KeptFault::from(fault))
     }
 }
 
 impl From<LogFault> for ServerFault {
+    ghost from_gives = { λ fault it. IsOfKept (kept_of_log fault) it };
+
     fn from(fault: LogFault) -> ServerFault {
         ServerFault::from(KeptFault::from(fault))
     }
 }
 
 impl From<EntriesFault> for ServerFault {
+    ghost from_gives = { λ fault it. IsOfStart fault it };
+
     fn from(fault: EntriesFault) -> ServerFault {
         match fault {
             EntriesFault::NoEntries => ServerFault::Journal(JournalFault::OtherJournal),
@@ -121,12 +133,16 @@ pub enum KeptFault {
 }
 
 impl From<ScriptFault> for KeptFault {
+    ghost from_gives = { λ fault it. it ≡ kept.Script fault };
+
     fn from(fault: ScriptFault) -> KeptFault {
         KeptFault::Script(fault)
     }
 }
 
 impl From<JournalFault> for KeptFault {
+    ghost from_gives = { λ fault it. it ≡ kept.Journal fault };
+
     fn from(fault: JournalFault) -> KeptFault {
         KeptFault::Journal(fault)
     }
@@ -139,6 +155,8 @@ impl From<NoMemory> for KeptFault {
 }
 
 impl From<DeviceFault> for KeptFault {
+    ghost from_gives = { λ fault it. it ≡ kept_of_device fault };
+
     fn from(fault: DeviceFault) -> KeptFault {
         match fault {
             DeviceFault::NoMemory => KeptFault::Script(ScriptFault::NoMemory),
@@ -148,6 +166,8 @@ impl From<DeviceFault> for KeptFault {
 }
 
 impl From<LogFault> for KeptFault {
+    ghost from_gives = { λ fault it. it ≡ kept_of_log fault };
+
     fn from(fault: LogFault) -> KeptFault {
         match fault {
             LogFault::NoMemory => KeptFault::Script(ScriptFault::NoMemory),
@@ -163,6 +183,8 @@ impl From<ReadFault> for KeptFault {
 }
 
 impl From<OpenFault> for KeptFault {
+    ghost from_gives = { λ fault it. it ≡ kept_of_open fault };
+
     fn from(fault: OpenFault) -> KeptFault {
         match fault {
             OpenFault::NoJournal => KeptFault::Journal(JournalFault::NotAJournal),
@@ -174,6 +196,8 @@ impl From<OpenFault> for KeptFault {
 }
 
 impl From<RegionFault> for KeptFault {
+    ghost from_gives = { λ fault it. it ≡ kept_of_region fault };
+
     fn from(fault: RegionFault) -> KeptFault {
         match fault {
             RegionFault::Damaged(place) => KeptFault::Journal(JournalFault::Damaged(Some(place))),
@@ -196,6 +220,8 @@ impl From<StartFault> for KeptFault {
 }
 
 impl From<EntriesFault> for KeptFault {
+    ghost from_gives = { λ fault it. it ≡ kept_of_start fault };
+
     fn from(fault: EntriesFault) -> KeptFault {
         match fault {
             EntriesFault::Open(fault) => KeptFault::from(fault),

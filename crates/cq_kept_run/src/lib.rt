@@ -21,5 +21,5 @@ pub use copying::copy;
 pub use dumping::dump;
 pub use fault::{JournalFault, KeptFault, ServerFault};
 pub use run::run_kept;
-pub use server::run_kept_server;
+pub use server::{open_server_file, run_kept_server};
 pub use verifying::verify;

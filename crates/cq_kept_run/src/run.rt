@@ -1,17 +1,20 @@
 //! How a session with a journal runs, from its start to the end of its reader.
-ghost use Rattle.std.specs.Prelude.{◌≡◌, false, true, IfOk, OnOk, ℕ, List};
+ghost use Rattle.std.specs.Prelude.{◌≡◌, false, true, IfOk, IsTrue, OnOk, Some, ℕ, List};
 ghost use Rattle.std.specs.Io.KnownBytes.{Appends};
 ghost use Rattle.cq_lines.specs.Checks.{inner_of, is_failed};
-ghost use Rattle.cq_kept_session.specs.Kept.{IsKept, session_size};
+ghost use Rattle.cq_journal.specs.Regions.{kept};
+ghost use Rattle.cq_kept_session.specs.Kept.{IsKept, kept_records, session_device, session_size};
+ghost use Rattle.cq_kept_session.specs.Texts.{opened};
+ghost use Rattle.cq_kept_run.specs.declared.sizes.TheConstants.{HALF, REGION};
 ghost use Rattle.cq_kept_run.specs.within.Runs.{Serving, TellsRest};
 
-use crate::blank::{fill, is_blank};
+use crate::blank::{fill, is_unmade};
 use crate::fault::{JournalFault, KeptFault};
 use crate::kind::tell_apart;
 use crate::sizes::{HALF, REGION};
 use crate::store::{settle, tell_store};
 use cq_base::ChainSize;
-use cq_disk::{Device, Host, Modelled, OpenFault, TornWrites, Unknown, create, open};
+use cq_disk::{Device, OpenFault, Region, TornWrites, Unknown, create, open, remove};
 use cq_kept_session::{Highest, KeptSession};
 use cq_lines::{Checked, ScriptFault, Sink};
 use std::alloc::Global;
@@ -41,37 +44,33 @@ pub fn run_kept<R: Read, W: Write>(
     } else {
         TornWrites::OldOrNew
     };
-    let device = open_or_make(rt, path, mebibytes, torn)?;
+    make_missing(rt, path, mebibytes)?;
+    let device = open(rt, path, torn, Unknown)?;
     match run_on(rt.alloc(), size, device, tells_store, reader, output) {
         Ok(()) => Ok(()),
         Err(fault) => Err(tell_apart(rt, path, fault)),
     }
 }
 
-/// Opens the file, or makes one of so many mebibytes where there is none.
-pub(crate) fn open_or_make(
-    rt: &HostRuntime,
-    path: &str,
-    mebibytes: u64,
-    torn: TornWrites,
-) -> Result<Modelled<Host, Unknown>, KeptFault> {
-    match open(rt, path, torn, Unknown) {
-        Ok(device) => Ok(device),
+/// Makes a file of so many mebibytes where there is none. One of no bytes is none: its making was cut short.
+pub(crate) fn make_missing(rt: &HostRuntime, path: &str, mebibytes: u64) -> Result<(), KeptFault> {
+    match open(rt, path, TornWrites::Any, Unknown) {
+        Ok(device) if device.len() > 0 => Ok(()),
+        Ok(_) => {
+            remove(rt, path)?;
+            make(rt, path, mebibytes)
+        }
         Err(OpenFault::Io(error)) if error.kind() == io::ErrorKind::NotFound => {
-            create(rt, path, (mebibytes as usize).saturating_mul(1_048_576))?;
-            open_made(rt, path, torn)
+            make(rt, path, mebibytes)
         }
         Err(fault) => Err(KeptFault::from(fault)),
     }
 }
 
-/// Opens the file, which has to be there.
-pub(crate) fn open_made(
-    rt: &HostRuntime,
-    path: &str,
-    torn: TornWrites,
-) -> Result<Modelled<Host, Unknown>, KeptFault> {
-    Ok(open(rt, path, torn, Unknown)?)
+/// Makes a file of so many mebibytes.
+fn make(rt: &HostRuntime, path: &str, mebibytes: u64) -> Result<(), KeptFault> {
+    create(rt, path, (mebibytes as usize).saturating_mul(1_048_576))?;
+    Ok(())
 }
 
 /// Runs a session whose lines a device keeps.
@@ -141,20 +140,29 @@ fn run_session<D: Device, R: Read, W: Write>(
     Ok(())
 }
 
-/// Begins a session on a device that has nothing, or goes on with the one that it has.
+/// Begins a session on a device where a journal is still to be made, or goes on with the one that it has.
 fn start<D: Device>(alloc: Global, size: ChainSize, device: D) -> Result<KeptSession<D>, KeptFault>
     ensures kept { IfOk result IsKept }
     ensures size { IfOk result (λ session. session_size session ≡ size) }
+
+    // Whatever records the device has, the session goes on behind these.
+    ensures records { IfOk result (λ session. IsTrue (D.is_honest (session_device session)) → (rs : List (List ℕ)) → kept HALF REGION (D.seen device) ≡ Some rs → kept_records session ≡ opened size rs) }
 {
-    let mut device = device;
     if device.len() < HALF + HALF {
         return Err(KeptFault::Journal(JournalFault::NotAJournal));
     }
-    if is_blank(&mut device)? {
-        fill(&mut device)?;
-        return Ok(KeptSession::create(alloc, size, device, HALF, REGION)?);
+    let mut root = Region {
+        device,
+        start: 0,
+        len: HALF,
+    };
+    let is_new = is_unmade(alloc, &mut root)?;
+    let mut device = root.device;
+    if !is_new {
+        return Ok(KeptSession::open(alloc, size, device, HALF, REGION)?);
     }
-    Ok(KeptSession::open(alloc, size, device, HALF, REGION)?)
+    fill(&mut device)?;
+    Ok(KeptSession::create(alloc, size, device, HALF, REGION)?)
 }
 
 /// Tells that the session is ready, and flushes that.

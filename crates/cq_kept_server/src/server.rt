@@ -1,8 +1,10 @@
 //! How a server begins whose entries are kept, and goes on behind those that were.
-ghost use Rattle.std.specs.Prelude.{◌≡◌, ◌⊎◌, ◌<◌, ◌≤◌, ◌+◌, [], ℕ, List, length, IsTrue, IfOk};
+ghost use Rattle.std.specs.Prelude.{◌≡◌, ◌⊎◌, ◌<◌, ◌≤◌, ◌+◌, [], ℕ, List, length, IsTrue, IfErr, IfOk};
 ghost use Rattle.cq_base.specs.declared.ask.Entry as rust_entry;
 ghost use Rattle.cq_disk.specs.Device.{LeavesOnly};
-ghost use Rattle.cq_kept_entries.specs.Kept.{BytesStandFor, entries_journal};
+ghost use Rattle.cq_journal.specs.Intact.{IsIntact};
+ghost use Rattle.cq_kept_entries.specs.Faults.{HasReason, IsOfCall};
+ghost use Rattle.cq_kept_entries.specs.Kept.{BytesStandFor, StandForSome, entries_journal};
 ghost use Rattle.cq_server_process.specs.Answers.{StandsSo};
 ghost use Rattle.cq_store.specs.Stands as stores;
 
@@ -49,6 +51,8 @@ impl<D: Device> KeptServer<D> {
         ensures settled { IfOk result IsSettled }
         ensures lengths { IfOk result (λ server. (server_half server ≡ half) × (server_len server ≡ len)) }
         ensures begins { IfOk result (λ server. BeginsWith server []) }
+        ensures honest { IfOk result (λ server. IsTrue (D.is_honest (server_device server)) → IsTrue (D.is_honest device)) }
+        ensures refused { IfErr result IsOfCall }
     {
         let store = Store::new(alloc)?;
         let kept = KeptEntries::create(alloc, device, half, len)?;
@@ -73,6 +77,9 @@ impl<D: Device> KeptServer<D> {
         // A crash at any moment leaves what it might have left before, or what stands for the same entries.
         ensures any_moment { IfOk result (λ server. IsTrue (D.is_honest (server_device server)) → (all : List rust_entry.Entry) → BytesStandFor half len (D.seen device) all
             → LeavesOnly D.moment D.left_since device (server_device server) (λ c. D.may_leave device c ⊎ BytesStandFor half len c all)) }
+
+        // What it refuses, it refuses for a reason: `last` is the device as the calls on it have left it.
+        ensures refused { IfErr result (λ fault. (last : D) × (IsTrue (D.is_honest last) → HasReason fault (IsIntact half len (D.seen device)) (StandForSome half len (D.seen device)))) }
     {
         let (kept, store) = KeptEntries::open(alloc, device, half, len)?;
         Ok(KeptServer::begin(alloc, kept, store))

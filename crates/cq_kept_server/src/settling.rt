@@ -10,15 +10,15 @@ impl<D: Device> KeptServer<D> {
     ghost use Rattle.cq_kept_server.specs.Keeping.{Rests, Stops};
     ghost use Rattle.cq_kept_server.specs.Servers.{IsReady, IsSettled};
 
-    /// Keeps all entries that were added, by one sync, and puts a base in the place of all where that is due. After an error, which `fault`
-    /// tells, the process has to end.
+    /// Keeps all entries that were added, by one sync, and makes ready for what comes: a base takes the place of all where that is due, and
+    /// the next region gets its space. After an error, which `fault` tells, the process has to end.
     pub fn keep_all(&mut self) -> Result<(), Unsettled>
         requires { IsReady self.old }
         ensures rests { OnOk result (Rests self.old self.new) }
         ensures settled { OnOk result (IsSettled self.new) }
         ensures stops { OnErr result (Stops self.old self.new) }
     {
-        match self.commit_and_rewrite() {
+        match self.commit_and_prepare() {
             Ok(()) => {
                 self.wanted = 0;
                 Ok(())
@@ -31,15 +31,14 @@ impl<D: Device> KeptServer<D> {
     }
 
     /// Keeps them.
-    fn commit_and_rewrite(&mut self) -> Result<(), LogFault>
+    fn commit_and_prepare(&mut self) -> Result<(), LogFault>
         requires { IsReady self.old }
         ensures rests { OnOk result (Rests self.old self.new) }
         ensures settled { OnOk result (IsSettled self.new) }
         ensures stops { OnErr result (Stops self.old self.new) }
     {
         self.kept.commit()?;
-        self.kept
-            .rewrite_if_due(self.process.core().store(), self.wanted)?;
+        self.kept.prepare(self.process.core().store(), self.wanted)?;
         Ok(())
     }
 }

@@ -12,7 +12,7 @@ use Rattle.cq_kept_session.specs.declared.kept.KeptSession.{KeptSession}
 use Rattle.cq_kept_session.specs.Bases.{AreOf, fresh, is_of, read}
 use Rattle.cq_kept_session.specs.Kept.{IsKept, StandsFor, kept_bytes, kept_records, session_device, told_text}
 use Rattle.cq_kept_session.specs.Texts.{has_mark, is_ended}
-use Rattle.cq_kept_session.specs.within.Settled.{IsSettled}
+use Rattle.cq_kept_session.specs.Settled.{IsSettled}
 use Rattle.cq_kept_session.proofs.Chunks.{joined_more}
 use Rattle.cq_kept_session.proofs.Stages.{are_back, are_on, fits_on}
 

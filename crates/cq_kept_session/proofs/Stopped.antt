@@ -12,7 +12,7 @@ use Rattle.cq_script.specs.Runs.{Takes, WritesPrefix}
 use Rattle.cq_kept_session.specs.declared.fault.TakeFault.{TakeFault}
 use Rattle.cq_kept_session.specs.declared.fault.TakeFault.TheVariants.{NotKept, NotTold}
 use Rattle.cq_kept_session.specs.declared.kept.KeptSession.{KeptSession}
-use Rattle.cq_kept_session.specs.Kept.{StandsFor, session_device, session_journal, told_text}
+use Rattle.cq_kept_session.specs.Kept.{IsKept, StandsFor, session_device, session_journal, told_text}
 use Rattle.cq_kept_session.specs.Outcomes.{OnKept, OnNotKept}
 use Rattle.cq_kept_session.specs.Served.{Refuses, Serves, StopsServing, TellsAtFault, no_room_text}
 use Rattle.cq_kept_session.specs.Texts.{as_kept}
@@ -65,28 +65,29 @@ module _ {D : Type 0} {g : Ghosts D} where
   Honest k = IsTrue (g.is_honest (session_device k))
 
   -- nothing was told behind what was served
-  pub stops_untold : (old mid new : KeptSession D g) (a b : Option (List ℕ)) (done rest lines : List ℕ) → lines ≡ done ++ rest → Serves old mid a b done → (Honest new → Honest mid) → StopsServing old new a b lines
-  stops_untold old mid new a b done rest lines are served honest = record { mid = mid; middle = b; done = done; rest = rest; are = are; served = served; honest = honest; tells = inl (Appends-nil b) }
+  pub stops_untold : (old mid new : KeptSession D g) (a b : Option (List ℕ)) (done rest lines : List ℕ) → IsKept mid → lines ≡ done ++ rest → Serves old mid a b done → (Honest new → Honest mid) → StopsServing old new a b lines
+  stops_untold old mid new a b done rest lines kept are served honest = record { mid = mid; kept = kept; middle = b; done = done; rest = rest; are = are; served = served; honest = honest; tells = inl (Appends-nil b) }
 
   -- nothing was served
-  pub stops_unserved : (old new : KeptSession D g) (a : Option (List ℕ)) (lines : List ℕ) → (Honest new → Honest old) → StopsServing old new a a lines
-  stops_unserved old new a lines honest = stops_untold old old new a a [] lines lines refl (serves_none old a) honest
+  pub stops_unserved : (old new : KeptSession D g) (a : Option (List ℕ)) (lines : List ℕ) → IsKept old → (Honest new → Honest old) → StopsServing old new a a lines
+  stops_unserved old new a lines kept honest = stops_untold old old new a a [] lines lines kept refl (serves_none old a) honest
 
-  pub stops_none : (k : KeptSession D g) (a : Option (List ℕ)) (lines : List ℕ) → StopsServing k k a a lines
-  stops_none k a lines = stops_unserved k k a lines (λ honest. honest)
+  pub stops_none : (k : KeptSession D g) (a : Option (List ℕ)) (lines : List ℕ) → IsKept k → StopsServing k k a a lines
+  stops_none k a lines kept = stops_unserved k k a lines kept (λ honest. honest)
 
   -- a line's refusal wasn't written to its end
-  pub stops_refusing : (k : KeptSession D g) (a b : Option (List ℕ)) (lines : List ℕ) → Refuses a b → StopsServing k k a b lines
-  stops_refusing k a b lines refused = record { mid = k; middle = a; done = []; rest = lines; are = refl; served = serves_none k a; honest = λ honest. honest; tells = inr (inl refused) }
+  pub stops_refusing : (k : KeptSession D g) (a b : Option (List ℕ)) (lines : List ℕ) → IsKept k → Refuses a b → StopsServing k k a b lines
+  stops_refusing k a b lines kept refused = record { mid = k; kept = kept; middle = a; done = []; rest = lines; are = refl; served = serves_none k a; honest = λ honest. honest; tells = inr (inl refused) }
 
   -- a chunk wasn't kept, or not told to its end
-  pub stops_took : {W : Type 0} (X : List ℕ → List ℕ → Type 0) (fault : TakeFault) (old new : KeptSession D g) (a b : Option (List ℕ)) (chunk : List ℕ) → (Honest new → Honest old)
+  pub stops_took : {W : Type 0} (X : List ℕ → List ℕ → Type 0) (fault : TakeFault) (old new : KeptSession D g) (a b : Option (List ℕ)) (chunk : List ℕ) → IsKept old → (Honest new → Honest old)
       → OnKept (faulty fault) (IsJournal (session_journal new))
       → OnKept (faulty fault) (Honest new → (bytes : List ℕ) → StandsFor old bytes → StandsFor new (bytes ++ chunk))
       → OnKept (faulty fault) (Honest new → (bytes : List ℕ) → StandsFor old bytes → (output : List ℕ) × Appends a b output × IsPrefix (told_text old bytes ++ output) (told_text new (bytes ++ chunk)) × X bytes output)
       → OnNotKept (faulty fault) W → (W → b ≡ a) → StopsServing old new a b chunk
-  stops_took X (NotKept fault) old new a b chunk honest journal stands told untold same = record {
+  stops_took X (NotKept fault) old new a b chunk kept honest journal stands told untold same = record {
     mid = old;
+    kept = kept;
     middle = a;
     done = [];
     rest = chunk;
@@ -95,8 +96,9 @@ module _ {D : Type 0} {g : Ghosts D} where
     honest = honest;
     tells = inl (subst (λ (c : Option (List ℕ)). Appends a c []) (sym (same untold)) (Appends-nil a));
   }
-  stops_took X (NotTold fault) old new a b chunk honest journal stands told untold same = record {
+  stops_took X (NotTold fault) old new a b chunk kept honest journal stands told untold same = record {
     mid = old;
+    kept = kept;
     middle = a;
     done = [];
     rest = chunk;
@@ -110,6 +112,7 @@ module _ {D : Type 0} {g : Ghosts D} where
   pub stops_behind : (one two three : KeptSession D g) (a b c : Option (List ℕ)) (x y : List ℕ) → Serves one two a b x → StopsServing two three b c y → StopsServing one three a c (x ++ y)
   stops_behind one two three a b c x y first s = record {
     mid = s.mid;
+    kept = s.kept;
     middle = s.middle;
     done = x ++ s.done;
     rest = s.rest;
@@ -128,6 +131,7 @@ module _ {D : Type 0} {g : Ghosts D} where
   pub stops_more : (old new : KeptSession D g) (a b : Option (List ℕ)) (lines more all : List ℕ) → lines ++ more ≡ all → StopsServing old new a b lines → StopsServing old new a b all
   stops_more old new a b lines more all is s = record {
     mid = s.mid;
+    kept = s.kept;
     middle = s.middle;
     done = s.done;
     rest = s.rest ++ more;

@@ -1,11 +1,12 @@
 -- A session and the lines that its journal has.
-use Rattle.std.specs.Prelude.{◌≡◌, ℕ, List, [], ◌∷◌, true, IsTrue, if◌then◌else◌}
+use Rattle.std.specs.Prelude.{◌≡◌, ℕ, Bool, List, [], ◌∷◌, true, IsTrue, if◌then◌else◌}
 use Rattle.cq_disk.specs.declared.device.Device.{Ghosts}
 use Rattle.cq_records.specs.Frames.{joined}
 use Rattle.cq_journal.specs.declared.journal.Journal.{Journal}
 use Rattle.cq_journal.specs.Journal.{IsJournal, journal_device, journal_records}
 use Rattle.cq_lines.specs.Lines.{ended_part}
 use Rattle.cq_script.specs.Resumed.{HasRun, lines_ended}
+use Rattle.cq_script.specs.declared.resumed.ResumedSession.{ResumedSession}
 use Rattle.cq_script.specs.Sessions.{session_text}
 use Rattle.cq_kept_session.specs.Bases.{AreOf, fresh, is_of, read}
 use Rattle.cq_kept_session.specs.Texts.{is_ended}
@@ -17,6 +18,14 @@ module _ {D : Type 0} {g : Ghosts D} where
 
   abbrev pub session_device : KeptSession D g → D
   session_device k = journal_device k.journal
+
+  -- what has run its lines
+  abbrev pub run_session : KeptSession D g → ResumedSession
+  run_session k = k.session
+
+  -- whether its last line has ended
+  abbrev pub ended_now : KeptSession D g → Bool
+  ended_now k = k.ended
 
   -- how many lines have ended
   abbrev pub session_lines : KeptSession D g → ℕ

@@ -5,6 +5,7 @@ pub mod Examples
 pub mod Kept
 pub mod Outcomes
 pub mod Served
+pub mod Settled
 pub mod Takes
 pub mod Texts
 pub mod within

@@ -7,7 +7,7 @@ use Rattle.cq_journal.specs.Journal.{IsJournal}
 use Rattle.cq_records.specs.Frames.{joined}
 use Rattle.cq_answers.specs.Answers.{refused_text}
 use Rattle.cq_kept_session.specs.declared.kept.KeptSession.{KeptSession}
-use Rattle.cq_kept_session.specs.Kept.{StandsFor, session_device, session_journal, session_size, told_text}
+use Rattle.cq_kept_session.specs.Kept.{IsKept, StandsFor, session_device, session_journal, session_size, told_text}
 use Rattle.cq_kept_session.specs.Takes.{Taken, chunks, outputs}
 
 -- lines that were kept, or a line that was refused, and the number that its refusal has
@@ -70,10 +70,11 @@ module _ {D : Type 0} {g : Ghosts D} where
   TellsAtFault old new before after lines =
       Appends before after [] ⊎ (Refuses before after ⊎ ((chunk : List ℕ) × IsPrefix chunk lines × KeptAndTold old new before after chunk))
 
-  -- A fault came as these lines were taken. The first of them were served, up to some session, and of the others no more is told than what
-  -- `TellsAtFault` says.
+  -- A fault came as these lines were taken. The first of them were served, up to some session whose journal keeps all of it, and of the
+  -- others no more is told than what `TellsAtFault` says.
   pub record StopsServing (old new : KeptSession D g) (before after : Option (List ℕ)) (lines : List ℕ) : Type 0 where
     pub mid : KeptSession D g
+    pub kept : IsKept mid
     pub middle : Option (List ℕ)
     pub done : List ℕ
     pub rest : List ℕ

@@ -5,13 +5,12 @@ ghost use Rattle.cq_kept_session.specs.Kept.{IsKept, StandsFor, session_device};
 ghost use Rattle.cq_kept_session.specs.Takes.{Taken, Takes};
 ghost use Rattle.cq_kept_session.specs.Texts.{as_kept};
 
-use crate::{KeptSession, TakeFault};
+use crate::{KeptSession, KeptSink, TakeFault};
 use cq_disk::Device;
 use cq_records::TEXT_LIMIT;
-use cq_script::Sink;
 
 /// A chunk that was taken is kept, and what was written is the text of it.
-pub fn take_takes<D: Device, W: Sink>(
+pub fn take_takes<D: Device, W: KeptSink<D>>(
     session: &mut KeptSession<D>,
     chunk: &[u8],
     writer: &mut W,
@@ -20,7 +19,7 @@ pub fn take_takes<D: Device, W: Sink>(
     requires short { length chunk.now ≤ TEXT_LIMIT }
     ensures kept { OnOk result (IsKept session.new) }
     ensures takes { OnOk result (IsTrue (D.is_honest (session_device session.new)) → (bytes : List ℕ) → StandsFor session.old bytes → (taken : Taken) × (taken.chunk ≡ as_kept chunk.now)
-        × Appends (W.contents writer.old) (W.contents writer.new) taken.output × Takes bytes taken session.old session.new) }
+        × Appends (W.taken writer.old) (W.taken writer.new) taken.output × Takes bytes taken session.old session.new) }
 {
     session.take(chunk, writer)
 }

@@ -16,7 +16,7 @@ ghost use Rattle.cq_kept_session.specs.Texts.{as_kept, has_mark, is_ended, mende
 ghost use Rattle.cq_kept_session.specs.declared.fault.TakeFault.TheVariants.{NotKept, NotTold};
 
 use crate::text::{as_kept, has_ended, is_unmarked};
-use crate::{Highest, TakeFault};
+use crate::{Highest, KeptSink, TakeFault};
 use cq_base::ChainSize;
 use cq_disk::Device;
 use cq_journal::Journal;
@@ -43,13 +43,13 @@ pub struct KeptSession<D: Device> {
 
 impl<D: Device> KeptSession<D> {
     ghost use Rattle.cq_kept_session.specs.Kept.{IsKept, StandsFor, kept_records, missing_end, session_device, session_journal, session_lines, session_size, told_text};
-    ghost use Rattle.cq_kept_session.specs.within.Settled.{IsSettled};
+    ghost use Rattle.cq_kept_session.specs.Settled.{IsSettled};
 
     /// Takes what one read brought: keeps it, runs the lines that end in it, writes what comes of them, and flushes it. Nothing is
     /// written before all that it rests on is on the medium. A byte of 0, 1, 2 or 3 is kept and run as a byte of 4: a line with any of
     /// them is a bad one. `NotKept(Full)`: there is no space, and the session goes on without the chunk. After any other fault it is to be
     /// opened anew. It takes memory for two copies of the chunk, and what its lines take.
-    pub fn take<W: Sink>(&mut self, chunk: &[u8], writer: &mut W) -> Result<(), TakeFault>
+    pub fn take<W: KeptSink<D>>(&mut self, chunk: &[u8], writer: &mut W) -> Result<(), TakeFault>
         requires kept { IsKept self.old }
         requires short { length chunk.now ≤ TEXT_LIMIT }
 
@@ -61,13 +61,13 @@ impl<D: Device> KeptSession<D> {
         // bytes: all of it after `Ok`.
         ensures stands { OnKept result (IsTrue (D.is_honest (session_device self.new)) → (bytes : List ℕ) → StandsFor self.old bytes → StandsFor self.new (bytes ++ as_kept chunk.now)) }
         ensures told { OnKept result (IsTrue (D.is_honest (session_device self.new)) → (bytes : List ℕ) → StandsFor self.old bytes → (output : List ℕ)
-            × Appends (W.contents writer.old) (W.contents writer.new) output
+            × Appends (W.taken writer.old) (W.taken writer.new) output
             × IsPrefix (told_text self.old bytes ++ output) (told_text self.new (bytes ++ as_kept chunk.now))
             × OnOk result (told_text self.new (bytes ++ as_kept chunk.now) ≡ told_text self.old bytes ++ output)) }
         ensures journal { OnKept result (IsJournal (session_journal self.new)) }
         ensures not_told { OnNotKept result (writer.new ≡ writer.old) }
-        ensures flushed { OnOk result (W.has_flushed writer.new ≡ true) }
-        ensures write_failed { result ≡ Err (NotTold WriteFailed) → W.has_failed writer.new ≡ true }
+        ensures flushed { OnOk result (W.is_passed_on writer.new ≡ true) }
+        ensures write_failed { result ≡ Err (NotTold WriteFailed) → W.is_broken writer.new ≡ true }
 
         // A crash at any moment leaves the records from before, or these and the chunk.
         ensures tries { Tries (adds (as_kept chunk.now ∷ [])) (session_journal self.old) (session_journal self.new) }
@@ -82,7 +82,7 @@ impl<D: Device> KeptSession<D> {
 
     /// Ends the last line where it has no line feed, as at the end of a reader, and answers it: `take` of a line feed. Where the
     /// last line has ended, nothing is done.
-    pub fn finish<W: Sink>(&mut self, writer: &mut W) -> Result<(), TakeFault>
+    pub fn finish<W: KeptSink<D>>(&mut self, writer: &mut W) -> Result<(), TakeFault>
         requires { IsKept self.old }
 
         ensures kept { OnOk result (IsKept self.new) }
@@ -90,7 +90,7 @@ impl<D: Device> KeptSession<D> {
         ensures records { OnKept result (IsTrue (D.is_honest (session_device self.new)) → kept_records self.new ≡ mended (kept_records self.old)) }
         ensures stands { OnKept result (IsTrue (D.is_honest (session_device self.new)) → (bytes : List ℕ) → StandsFor self.old bytes → StandsFor self.new (bytes ++ missing_end self.old)) }
         ensures told { OnKept result (IsTrue (D.is_honest (session_device self.new)) → (bytes : List ℕ) → StandsFor self.old bytes → (output : List ℕ)
-            × Appends (W.contents writer.old) (W.contents writer.new) output
+            × Appends (W.taken writer.old) (W.taken writer.new) output
             × IsPrefix (told_text self.old bytes ++ output) (told_text self.new (bytes ++ missing_end self.old))
             × OnOk result (told_text self.new (bytes ++ missing_end self.old) ≡ told_text self.old bytes ++ output)) }
         ensures not_told { OnNotKept result (writer.new ≡ writer.old) }
@@ -132,7 +132,7 @@ impl<D: Device> KeptSession<D> {
     }
 
     /// Takes a chunk that a record can have.
-    fn take_text<W: Sink>(&mut self, chunk: &[u8], writer: &mut W) -> Result<(), TakeFault>
+    fn take_text<W: KeptSink<D>>(&mut self, chunk: &[u8], writer: &mut W) -> Result<(), TakeFault>
         requires kept { IsKept self.old }
         requires text { is_text chunk.now ≡ true }
         requires unmarked { has_mark chunk.now ≡ false }
@@ -142,18 +142,18 @@ impl<D: Device> KeptSession<D> {
         ensures records { OnKept result (kept_records self.new ≡ kept_records self.old ++ chunk.now ∷ []) }
         ensures stands { OnKept result (IsTrue (D.is_honest (session_device self.new)) → (bytes : List ℕ) → StandsFor self.old bytes → StandsFor self.new (bytes ++ chunk.now)) }
         ensures told { OnKept result (IsTrue (D.is_honest (session_device self.new)) → (bytes : List ℕ) → StandsFor self.old bytes → (output : List ℕ)
-            × Appends (W.contents writer.old) (W.contents writer.new) output
+            × Appends (W.taken writer.old) (W.taken writer.new) output
             × IsPrefix (told_text self.old bytes ++ output) (told_text self.new (bytes ++ chunk.now))
             × OnOk result (told_text self.new (bytes ++ chunk.now) ≡ told_text self.old bytes ++ output)) }
         ensures journal { OnKept result (IsJournal (session_journal self.new)) }
         ensures not_told { OnNotKept result (writer.new ≡ writer.old) }
-        ensures flushed { OnOk result (W.has_flushed writer.new ≡ true) }
-        ensures write_failed { result ≡ Err (NotTold WriteFailed) → W.has_failed writer.new ≡ true }
+        ensures flushed { OnOk result (W.is_passed_on writer.new ≡ true) }
+        ensures write_failed { result ≡ Err (NotTold WriteFailed) → W.is_broken writer.new ≡ true }
         ensures tries { Tries (adds (chunk.now ∷ [])) (session_journal self.old) (session_journal self.new) }
         ensures full { result ≡ Err (NotKept Full) → IsKept self.new × (kept_records self.new ≡ kept_records self.old) }
     {
         self.keep(chunk)?;
-        match self.tell(chunk, writer) {
+        match writer.tell(self, chunk) {
             Ok(()) => Ok(()),
             Err(fault) => Err(TakeFault::NotTold(fault)),
         }
@@ -178,7 +178,7 @@ impl<D: Device> KeptSession<D> {
     }
 
     /// Runs the lines that end in a chunk, and writes what comes of them. It asks that the chunk is kept: nobody is told before.
-    fn tell<W: Sink>(&mut self, chunk: &[u8], writer: &mut W) -> Result<(), ScriptFault>
+    pub(crate) fn tell<W: Sink>(&mut self, chunk: &[u8], writer: &mut W) -> Result<(), ScriptFault>
         requires settled { IsSettled self.old chunk.now }
 
         ensures same { (self.new.journal ≡ self.old.journal) × (session_size self.new ≡ session_size self.old) }

@@ -15,6 +15,7 @@ mod room;
 mod serve;
 mod serving;
 mod starting;
+mod telling;
 mod text;
 
 pub use base::Header;
@@ -26,3 +27,4 @@ pub use fault::{ServeFault, StartFault, TakeFault};
 pub use kept::KeptSession;
 pub use laws::{bases_are_read_so, what_is_told_is_of_what_is_kept};
 pub use serving::NO_ROOM;
+pub use telling::KeptSink;

@@ -7,10 +7,10 @@ ghost use Rattle.cq_lines.specs.declared.text.TheConstants.{CHUNK_SIZE};
 ghost use Rattle.cq_kept_session.specs.Served.{IsEnd, Serves, StopsServing};
 ghost use Rattle.cq_kept_session.specs.Texts.{as_kept};
 
-use crate::{KeptSession, ServeFault, TakeFault};
+use crate::{KeptSession, KeptSink, ServeFault, TakeFault};
 use cq_disk::Device;
 use cq_lines::{BYTES_LIMIT, CHUNK_SIZE, LINE_LIMIT};
-use cq_script::{ScriptFault, Sink, Source, read_fault};
+use cq_script::{ScriptFault, Source, read_fault};
 use memchr::memrchr;
 
 /// These bytes in two parts: what ends with their last line feed, and the rest.
@@ -30,7 +30,7 @@ impl<D: Device> KeptSession<D> {
     /// line feed, and answered before more is read; so the lines that come meanwhile are the next to be kept. The last line is ended
     /// where it has no line feed. Beside what the lines take it holds the line that has begun, and one read. Where so many lines have come
     /// that it is worth its time, a base takes the place of all that is kept, before more is read: `rewrite`.
-    pub fn serve<R: Source, W: Sink>(
+    pub fn serve<R: Source, W: KeptSink<D>>(
         &mut self,
         reader: &mut R,
         writer: &mut W,
@@ -40,11 +40,11 @@ impl<D: Device> KeptSession<D> {
         ensures kept { OnOk result (IsKept self.new) }
         ensures size { session_size self.new ≡ session_size self.old }
         ensures serves { OnOk result ((input : List ℕ) × (end : List ℕ) × Consumes (R.remaining reader.old) (R.remaining reader.new) input × IsAtEnd (R.remaining reader.new) × IsEnd end
-            × Serves self.old self.new (W.contents writer.old) (W.contents writer.new) (as_kept (input ++ end))) }
+            × Serves self.old self.new (W.taken writer.old) (W.taken writer.new) (as_kept (input ++ end))) }
 
         // Whatever fault ends it, what was written of lines rests on lines that are kept.
         ensures stops { OnErr result ((input : List ℕ) × (end : List ℕ) × Consumes (R.remaining reader.old) (R.remaining reader.new) input × IsEnd end
-            × StopsServing self.old self.new (W.contents writer.old) (W.contents writer.new) (as_kept (input ++ end))) }
+            × StopsServing self.old self.new (W.taken writer.old) (W.taken writer.new) (as_kept (input ++ end))) }
         ensures reader_sound { OnOk result (R.has_failed reader.new ≡ false) }
     {
         let mut partial = Vec::new(self.alloc);
@@ -69,7 +69,7 @@ impl<D: Device> KeptSession<D> {
 
     /// Takes the lines that end in a chunk, of which the first begins with the partial one, and leaves what is behind them. A line
     /// that is too long is taken before its end.
-    fn take_chunk<W: Sink>(
+    fn take_chunk<W: KeptSink<D>>(
         &mut self,
         partial: &mut Vec<u8>,
         chunk: &[u8],
@@ -83,8 +83,8 @@ impl<D: Device> KeptSession<D> {
         ensures size { session_size self.new ≡ session_size self.old }
         ensures partial { OnOk result (length partial.new.items ≤ LINE_LIMIT) }
         ensures serves { OnOk result ((done : List ℕ) × (done ++ partial.new.items ≡ partial.old.items ++ chunk.now)
-            × Serves self.old self.new (W.contents writer.old) (W.contents writer.new) (as_kept done)) }
-        ensures stops { OnErr result (StopsServing self.old self.new (W.contents writer.old) (W.contents writer.new) (as_kept (partial.old.items ++ chunk.now))) }
+            × Serves self.old self.new (W.taken writer.old) (W.taken writer.new) (as_kept done)) }
+        ensures stops { OnErr result (StopsServing self.old self.new (W.taken writer.old) (W.taken writer.new) (as_kept (partial.old.items ++ chunk.now))) }
     {
         let (ended, rest) = cut_behind_lines(chunk);
         self.take_more(partial, ended, 0, writer)?;
@@ -92,7 +92,7 @@ impl<D: Device> KeptSession<D> {
     }
 
     /// Adds bytes to the partial line, and takes both where they are more than so many.
-    fn take_more<W: Sink>(
+    fn take_more<W: KeptSink<D>>(
         &mut self,
         partial: &mut Vec<u8>,
         bytes: &[u8],
@@ -108,8 +108,8 @@ impl<D: Device> KeptSession<D> {
         ensures size { session_size self.new ≡ session_size self.old }
         ensures partial { OnOk result (length partial.new.items ≤ LINE_LIMIT) }
         ensures serves { OnOk result ((done : List ℕ) × (done ++ partial.new.items ≡ partial.old.items ++ bytes.now)
-            × Serves self.old self.new (W.contents writer.old) (W.contents writer.new) (as_kept done)) }
-        ensures stops { OnErr result (StopsServing self.old self.new (W.contents writer.old) (W.contents writer.new) (as_kept (partial.old.items ++ bytes.now))) }
+            × Serves self.old self.new (W.taken writer.old) (W.taken writer.new) (as_kept done)) }
+        ensures stops { OnErr result (StopsServing self.old self.new (W.taken writer.old) (W.taken writer.new) (as_kept (partial.old.items ++ bytes.now))) }
     {
         if bytes.is_empty() {
             return Ok(());
@@ -124,14 +124,18 @@ impl<D: Device> KeptSession<D> {
     }
 
     /// Takes the partial line as one that has ended, at the end of the reader.
-    fn take_end<W: Sink>(&mut self, partial: &mut Vec<u8>, writer: &mut W) -> Result<(), TakeFault>
+    fn take_end<W: KeptSink<D>>(
+        &mut self,
+        partial: &mut Vec<u8>,
+        writer: &mut W,
+    ) -> Result<(), TakeFault>
         requires kept { IsKept self.old }
         requires partial { length partial.old.items ≤ LINE_LIMIT }
 
         ensures kept { OnOk result (IsKept self.new) }
         ensures size { session_size self.new ≡ session_size self.old }
-        ensures serves { OnOk result ((end : List ℕ) × IsEnd end × Serves self.old self.new (W.contents writer.old) (W.contents writer.new) (as_kept (partial.old.items ++ end))) }
-        ensures stops { OnErr result (StopsServing self.old self.new (W.contents writer.old) (W.contents writer.new) (as_kept (partial.old.items ++ 10 ∷ []))) }
+        ensures serves { OnOk result ((end : List ℕ) × IsEnd end × Serves self.old self.new (W.taken writer.old) (W.taken writer.new) (as_kept (partial.old.items ++ end))) }
+        ensures stops { OnErr result (StopsServing self.old self.new (W.taken writer.old) (W.taken writer.new) (as_kept (partial.old.items ++ 10 ∷ []))) }
     {
         if partial.as_slice().is_empty() && self.ended {
             return Ok(());

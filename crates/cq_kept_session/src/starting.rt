@@ -44,6 +44,7 @@ impl<D: Device> KeptSession<D> {
         ensures named { IfOk result (λ session. kept_records session ≡ size_records size) }
         ensures size { IfOk result (λ session. session_size session ≡ size) }
         ensures lengths { IfOk result (λ session. (journal_half (session_journal session) ≡ half) × (region_len (session_journal session) ≡ len)) }
+        ensures honest { IfOk result (λ session. IsTrue (D.is_honest (session_device session)) → IsTrue (D.is_honest device)) }
     {
         let behind = device.len().saturating_sub(half).saturating_sub(half);
         let schedule = Schedule::new(size, len, behind);

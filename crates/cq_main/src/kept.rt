@@ -9,8 +9,10 @@ use crate::process_fault::report_process;
 use crate::report::report;
 use cq_args::JournalOptions;
 use cq_base::ChainSize;
+use cq_disk::Unknown;
 use cq_kept_run::{
-    JournalFault, KeptFault, ServerFault, copy, dump, run_kept, run_kept_server, verify,
+    JournalFault, KeptFault, ServerFault, copy, dump, open_server_file, run_kept, run_kept_server,
+    verify,
 };
 use cq_script::Checked;
 use std::io::{Read, Write};
@@ -81,7 +83,8 @@ impl KeptSessions for HostRuntime {
         reader: &mut Checked<R>,
         output: &mut Checked<W>,
     ) -> Result<(), ServerFault> {
-        run_kept_server(self, path, mebibytes, no_create, reader, output)
+        let device = open_server_file(self, path, mebibytes, no_create, Unknown)?;
+        run_kept_server(self.alloc(), device, no_create, reader, output)
     }
 
     fn verify<W: Write>(&self, path: &str, output: &mut Checked<W>) -> Result<(), KeptFault> {

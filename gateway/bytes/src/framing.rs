@@ -9,10 +9,10 @@ use std::path::Path;
 const MARK: [u8; 4] = *b"\xffHC\xfe";
 
 /// The bytes of a frame before its payload: mark, number, place and length, and a checksum over all but the mark.
-const HEAD: usize = 4 + 8 + 8 + 4 + 4;
+const HEAD_BYTES: usize = 4 + 8 + 8 + 4 + 4;
 
 /// The longest payload that is read.
-const LONGEST: usize = 1 << 30;
+const LONGEST_PAYLOAD_BYTES: usize = 1 << 30;
 
 /// A good frame in the bytes of a file.
 #[derive(Clone, Copy, Debug, PartialEq, Eq)]
@@ -26,7 +26,7 @@ pub struct Frame<'a> {
 impl Frame<'_> {
     /// The place behind the frame.
     pub fn end(&self) -> u64 {
-        self.place + (HEAD + self.payload.len()) as u64
+        self.place + (HEAD_BYTES + self.payload.len()) as u64
     }
 }
 
@@ -39,7 +39,7 @@ fn checksum(head: &[u8], payload: &[u8]) -> u32 {
 
 /// The bytes of a frame that is to stand at this place. The payload has at most 2^30 bytes, or nobody reads it.
 pub fn encode(number: u64, place: u64, payload: &[u8]) -> Vec<u8> {
-    let mut bytes = Vec::with_capacity(HEAD + payload.len());
+    let mut bytes = Vec::with_capacity(HEAD_BYTES + payload.len());
     bytes.extend_from_slice(&MARK);
     bytes.extend_from_slice(&number.to_be_bytes());
     bytes.extend_from_slice(&place.to_be_bytes());
@@ -53,7 +53,7 @@ pub fn encode(number: u64, place: u64, payload: &[u8]) -> Vec<u8> {
 pub fn read(bytes: &[u8], place: u64) -> Option<Frame<'_>> {
     let rest = bytes.get(usize::try_from(place).ok()?..)?;
     let head = Head::read(rest, place)?;
-    head.frame(rest.get(HEAD..HEAD.checked_add(head.length)?)?)
+    head.frame(rest.get(HEAD_BYTES..HEAD_BYTES.checked_add(head.length)?)?)
 }
 
 /// What stands before a frame's payload.
@@ -69,11 +69,11 @@ struct Head {
 impl Head {
     /// That of a frame which is to stand at this place, if the bytes begin with one.
     fn read(bytes: &[u8], place: u64) -> Option<Head> {
-        let head = bytes.get(..HEAD)?;
+        let head = bytes.get(..HEAD_BYTES)?;
         let number_at = |at: usize| -> Option<u64> { Some(u64::from_be_bytes(head.get(at..at + 8)?.try_into().ok()?)) };
         let word_at = |at: usize| -> Option<u32> { Some(u32::from_be_bytes(head.get(at..at + 4)?.try_into().ok()?)) };
         let (number, length, checksum) = (number_at(4)?, word_at(20)? as usize, word_at(24)?);
-        let is_good = head[..4] == MARK && number_at(12)? == place && length <= LONGEST;
+        let is_good = head[..4] == MARK && number_at(12)? == place && length <= LONGEST_PAYLOAD_BYTES;
         is_good.then_some(Head { number, place, length, checksum, summed: head[4..24].try_into().ok()? })
     }
 
@@ -116,8 +116,8 @@ impl FileFrames {
 
     /// Reads what may be the next frame.
     fn read(&mut self) -> io::Result<Option<Head>> {
-        let Some(most) = (self.size - self.place).checked_sub(HEAD as u64) else { return Ok(None) };
-        let mut bytes = [0; HEAD];
+        let Some(most) = (self.size - self.place).checked_sub(HEAD_BYTES as u64) else { return Ok(None) };
+        let mut bytes = [0; HEAD_BYTES];
         self.file.read_exact(&mut bytes)?;
         let Some(head) = Head::read(&bytes, self.place).filter(|head| head.length as u64 <= most) else {
             return Ok(None);
@@ -182,9 +182,9 @@ mod tests {
         for cut in 0..=whole {
             std::fs::write(&path, &file[..cut]).unwrap();
             let (numbers, left) = read_file(&path);
-            let expected = [HEAD + 5, 2 * HEAD + 5, whole].iter().filter(|end| **end <= cut).count();
+            let expected = [HEAD_BYTES + 5, 2 * HEAD_BYTES + 5, whole].iter().filter(|end| **end <= cut).count();
             assert_eq!(numbers, [7, 8, 9][..expected], "cut at {cut}");
-            assert_eq!(left.is_none(), [0, HEAD + 5, 2 * HEAD + 5, whole].contains(&cut), "cut at {cut}");
+            assert_eq!(left.is_none(), [0, HEAD_BYTES + 5, 2 * HEAD_BYTES + 5, whole].contains(&cut), "cut at {cut}");
         }
         for byte in 0..whole {
             let mut spoilt = file.clone();

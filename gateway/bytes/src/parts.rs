@@ -8,13 +8,13 @@ use tokio::io::{self, AsyncRead, AsyncReadExt};
 pub const VERSION: u8 = 1;
 
 /// No frame has more bytes behind its length.
-pub const FRAME_LIMIT: usize = 4_194_304;
+pub const FRAME_LIMIT_BYTES: usize = 4_194_304;
 
 /// So many bytes are read at once.
-const CHUNK: usize = 64 << 10;
+const CHUNK_BYTES: usize = 64 << 10;
 
 /// Where there is room for less, more is made.
-const LEAST_ROOM: usize = 16 << 10;
+const LEAST_ROOM_BYTES: usize = 16 << 10;
 
 /// Why bytes aren't a frame of this version.
 #[derive(Clone, Copy, Debug, Error, PartialEq, Eq)]
@@ -171,8 +171,8 @@ pub fn append_frame(out: &mut Vec<u8>, kind: u8, write: impl FnOnce(&mut Vec<u8>
 /// Makes room for more bytes behind those that are there. What is left of the last piece of memory is used first: what was cut
 /// off before keeps that one in use.
 pub fn make_room(buffer: &mut BytesMut) {
-    if buffer.capacity() - buffer.len() < LEAST_ROOM {
-        buffer.reserve(CHUNK);
+    if buffer.capacity() - buffer.len() < LEAST_ROOM_BYTES {
+        buffer.reserve(CHUNK_BYTES);
     }
 }
 
@@ -272,7 +272,7 @@ mod tests {
     #[test]
     fn lengths_are_not_believed() {
         let mut cutter = Cutter { buffer: BytesMut::from(&[0xff, 0xff, 0xff, 0xff, 1][..]) };
-        assert_eq!(cutter.next(FRAME_LIMIT), Err(Malformed("it is too long")));
+        assert_eq!(cutter.next(FRAME_LIMIT_BYTES), Err(Malformed("it is too long")));
         let bytes = Bytes::from_static(&[VERSION, 0xff, 0xff, 0xff, 0xff, 1]);
         assert!(Reader::of_frame(bytes.clone()).unwrap().run().is_err());
         assert!(Reader::of_frame(bytes).unwrap().servers().is_err());
@@ -282,7 +282,7 @@ mod tests {
     #[tokio::test]
     async fn half_a_frame_is_an_end() {
         let whole = frame(1, |out| out.run(b"some bytes"));
-        let mut frames = Frames::new(&whole[..whole.len() - 1], FRAME_LIMIT);
+        let mut frames = Frames::new(&whole[..whole.len() - 1], FRAME_LIMIT_BYTES);
         assert_eq!(frames.next().await.unwrap_err().kind(), io::ErrorKind::UnexpectedEof);
     }
 }

@@ -51,7 +51,7 @@ pub struct Follower {
 }
 
 /// What the task that follows tells.
-struct Told {
+struct ActingSenders {
     acting: watch::Sender<Option<Acting>>,
     ended: watch::Sender<Option<String>>,
 }
@@ -67,7 +67,7 @@ impl Follower {
         let (reach, away, condition): (_, _, Arc<Mutex<Condition>>) = Default::default();
         tokio::spawn(condition::watch(cluster.etcd.clone(), condition.clone()));
         let follower = Follower { acting, look, suspension, ended, reach, away, condition };
-        let told = Told { acting: tell_acting, ended: tell_end };
+        let told = ActingSenders { acting: tell_acting, ended: tell_end };
         tokio::spawn(cluster.etcd.clone().watch(cluster.keys.chain(), follower.look.clone()));
         tokio::spawn(follower.suspension.clone().keep_noting());
         tokio::spawn(follow(cluster, told, follower.clone()));
@@ -137,7 +137,7 @@ impl Follower {
     }
 }
 
-async fn follow(cluster: Cluster, told: Told, follower: Follower) {
+async fn follow(cluster: Cluster, told: ActingSenders, follower: Follower) {
     let mut known = BTreeMap::new();
     let mut contact = Contact::default();
     let about = About { cluster: cluster.name.clone(), incarnation: cluster.settings.incarnation.clone() };

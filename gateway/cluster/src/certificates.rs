@@ -24,7 +24,7 @@ const DAYS: u32 = 365;
 
 /// What is to be made.
 #[derive(Args, Clone, Debug)]
-pub struct Wanted {
+pub struct CertificateOptions {
     /// The name of the cluster
     #[arg(long, value_name = "NAME")]
     pub cluster: String,
@@ -46,7 +46,7 @@ pub struct Wanted {
 }
 
 /// Makes the authority, or a certificate that it has signed. A file that is there is never written. Says what was made.
-pub fn make(wanted: &Wanted) -> Result<Vec<String>> {
+pub fn make(wanted: &CertificateOptions) -> Result<Vec<String>> {
     test_cluster(&wanted.cluster)?;
     if wanted.role.is_empty() {
         make_authority(wanted)
@@ -55,12 +55,12 @@ pub fn make(wanted: &Wanted) -> Result<Vec<String>> {
     }
 }
 
-fn make_authority(wanted: &Wanted) -> Result<Vec<String>> {
+fn make_authority(wanted: &CertificateOptions) -> Result<Vec<String>> {
     let folder = &wanted.folder;
     fs::create_dir_all(folder).with_context(|| format!("{} can't be made", folder.display()))?;
     let files = Files::of(folder, AUTHORITY)?;
     let days = wanted.days.unwrap_or(DAYS_OF_AUTHORITY);
-    let room = Room::begin(folder)?;
+    let room = OpensslFolder::begin(folder)?;
     let extensions = "basicConstraints = critical,CA:TRUE,pathlen:0\nkeyUsage = critical,keyCertSign,cRLSign\n";
     room.configure("authorities of hobbychair", &wanted.cluster, extensions)?;
     room.openssl(&["req", "-x509", "-extensions", "extensions", "-days", &days.to_string(), "-out", "certificate"])?;
@@ -71,7 +71,7 @@ fn make_authority(wanted: &Wanted) -> Result<Vec<String>> {
     ])
 }
 
-fn make_certificate(wanted: &Wanted) -> Result<Vec<String>> {
+fn make_certificate(wanted: &CertificateOptions) -> Result<Vec<String>> {
     let folder = &wanted.folder;
     let [certificate, key] = ["pem", "key"].map(|end| folder.join(format!("{AUTHORITY}.{end}")));
     for file in [&certificate, &key] {
@@ -83,7 +83,7 @@ fn make_certificate(wanted: &Wanted) -> Result<Vec<String>> {
     test_name(&name)?;
     let files = Files::of(folder, &name)?;
     let days = wanted.days.unwrap_or(DAYS);
-    let room = Room::begin(folder)?;
+    let room = OpensslFolder::begin(folder)?;
     room.configure("hobbychair", &name, &extensions(wanted)?)?;
     room.openssl(&["req", "-out", "request"])?;
     let (serial, days_said) = (format!("0x1{}", random_name()), days.to_string());
@@ -115,7 +115,7 @@ fn text(path: &Path) -> Result<&str> {
 }
 
 /// What stands in a certificate.
-fn extensions(wanted: &Wanted) -> Result<String> {
+fn extensions(wanted: &CertificateOptions) -> Result<String> {
     let is_server = wanted.role.iter().any(|role| matches!(role, Role::Node | Role::Etcd));
     let usage = if is_server { "serverAuth,clientAuth" } else { "clientAuth" };
     let mut names: Vec<String> = wanted.role.iter().map(|role| format!("DNS:{}", role.name(&wanted.cluster))).collect();
@@ -172,7 +172,7 @@ impl Files {
     }
 
     /// Takes both out of the room. The key is for its owner alone.
-    fn keep(&self, room: &Room) -> Result<()> {
+    fn keep(&self, room: &OpensslFolder) -> Result<()> {
         write_new(&self.key, &fs::read(room.0.join("key"))?, 0o600)?;
         write_new(&self.certificate, &fs::read(room.0.join("certificate"))?, 0o644).map_err(|error| {
             // Nobody has the certificate of this key.
@@ -194,20 +194,20 @@ fn write_new(path: &Path, bytes: &[u8], mode: u32) -> Result<()> {
 }
 
 /// A folder for what openssl reads and writes, which is gone behind that.
-struct Room(PathBuf);
+struct OpensslFolder(PathBuf);
 
-impl Drop for Room {
+impl Drop for OpensslFolder {
     fn drop(&mut self) {
         let _ = fs::remove_dir_all(&self.0);
     }
 }
 
-impl Room {
-    fn begin(folder: &Path) -> Result<Room> {
+impl OpensslFolder {
+    fn begin(folder: &Path) -> Result<OpensslFolder> {
         let path = folder.join(format!(".making-{}", random_name()));
         let made = fs::DirBuilder::new().mode(0o700).create(&path);
         made.with_context(|| format!("{} can't be made", path.display()))?;
-        Ok(Room(path))
+        Ok(OpensslFolder(path))
     }
 
     /// What openssl is told of the subject of a certificate with a new key, and of what stands in it.

@@ -16,11 +16,11 @@ use tokio::sync::oneshot;
 use tokio::time::timeout;
 
 use hobbychair_bytes::commands::Response;
-use hobbychair_bytes::parts::{Cutter, FRAME_LIMIT};
+use hobbychair_bytes::parts::{Cutter, FRAME_LIMIT_BYTES};
 use hobbychair_bytes::processes::end_with_this_process;
 
 /// So much is written at once.
-const MOST_WRITTEN: usize = 1 << 20;
+const MOST_WRITTEN_BYTES: usize = 1 << 20;
 
 /// So long a process that has closed its output has to end.
 const LAST_MOMENTS: Duration = Duration::from_secs(1);
@@ -35,7 +35,7 @@ pub struct NotStarted {
 
 /// What is told of a process.
 #[derive(Debug)]
-pub enum Told {
+pub enum ChildEvent {
     /// Some of its responses, in their order.
     Responses(Vec<Response>),
     /// It has ended, or told something that is no response. It is the last thing told.
@@ -56,7 +56,7 @@ impl Child {
     pub fn start(
         program: &str,
         words: &[String],
-        told: impl FnMut(Told) + Send + 'static,
+        told: impl FnMut(ChildEvent) + Send + 'static,
     ) -> Result<Child, NotStarted> {
         let not_started = |error: io::Error| NotStarted { program: program.into(), why: error.to_string() };
         let mut command = Command::new(program);
@@ -87,7 +87,7 @@ impl Child {
 /// Writes what the process is told, until nobody tells any more. That the process has ended is told by who reads.
 async fn write_all(mut input: ChildStdin, mut frames: UnboundedReceiver<Vec<u8>>) {
     while let Some(mut bytes) = frames.recv().await {
-        while bytes.len() < MOST_WRITTEN {
+        while bytes.len() < MOST_WRITTEN_BYTES {
             match frames.try_recv() {
                 Ok(more) => bytes.extend_from_slice(&more),
                 Err(_) => break,
@@ -104,14 +104,14 @@ async fn read_all(
     mut output: ChildStdout,
     mut process: process::Child,
     unwanted: oneshot::Receiver<()>,
-    mut told: impl FnMut(Told),
+    mut told: impl FnMut(ChildEvent),
 ) {
     let read = async {
         let why = match read_responses(&mut output, &mut told).await {
             Ok(()) => how_it_ended(&mut process).await,
             Err(error) => error.to_string(),
         };
-        told(Told::Ended(why));
+        told(ChildEvent::Ended(why));
     };
     tokio::select! {
         () = read => {}
@@ -119,7 +119,7 @@ async fn read_all(
     }
 }
 
-async fn read_responses(output: &mut ChildStdout, told: &mut impl FnMut(Told)) -> io::Result<()> {
+async fn read_responses(output: &mut ChildStdout, told: &mut impl FnMut(ChildEvent)) -> io::Result<()> {
     let mut cutter = Cutter::default();
     loop {
         cutter.make_room();
@@ -127,11 +127,11 @@ async fn read_responses(output: &mut ChildStdout, told: &mut impl FnMut(Told)) -
             return Ok(());
         }
         let mut read = Vec::new();
-        while let Some(frame) = cutter.next(FRAME_LIMIT).map_err(other)? {
+        while let Some(frame) = cutter.next(FRAME_LIMIT_BYTES).map_err(other)? {
             read.push(Response::read(frame).map_err(other)?);
         }
         if !read.is_empty() {
-            told(Told::Responses(read));
+            told(ChildEvent::Responses(read));
         }
     }
 }
@@ -164,14 +164,14 @@ mod tests {
 
     use super::*;
 
-    fn start(script: &str) -> (Child, UnboundedReceiver<Told>) {
+    fn start(script: &str) -> (Child, UnboundedReceiver<ChildEvent>) {
         let (tell, told) = unbounded_channel();
         let words = ["-c".to_string(), script.to_string()];
         let child = Child::start("/bin/sh", &words, move |one| drop(tell.send(one))).unwrap();
         (child, told)
     }
 
-    async fn next(told: &mut UnboundedReceiver<Told>) -> Option<Told> {
+    async fn next(told: &mut UnboundedReceiver<ChildEvent>) -> Option<ChildEvent> {
         timeout(Duration::from_secs(10), told.recv()).await.unwrap()
     }
 
@@ -186,8 +186,10 @@ mod tests {
         let mut heard = 0;
         while heard < given {
             match next(&mut told).await.unwrap() {
-                Told::Responses(responses) => heard += responses.iter().filter(|one| **one == Response::Heard).count(),
-                Told::Ended(why) => panic!("{why}"),
+                ChildEvent::Responses(responses) => {
+                    heard += responses.iter().filter(|one| **one == Response::Heard).count()
+                }
+                ChildEvent::Ended(why) => panic!("{why}"),
             }
         }
     }
@@ -195,9 +197,9 @@ mod tests {
     #[tokio::test]
     async fn an_end_is_told_and_so_is_what_is_no_response() {
         let (_child, mut told) = start("exit 3");
-        assert!(matches!(next(&mut told).await, Some(Told::Ended(why)) if why == "it ended with status 3"));
+        assert!(matches!(next(&mut told).await, Some(ChildEvent::Ended(why)) if why == "it ended with status 3"));
         let (_child, mut told) = start("printf '\\2\\0\\0\\0\\1\\77'; sleep 60");
-        assert!(matches!(next(&mut told).await, Some(Told::Ended(why)) if why.contains("no response")));
+        assert!(matches!(next(&mut told).await, Some(ChildEvent::Ended(why)) if why.contains("no response")));
         assert!(Child::start("/nowhere/cq", &[], |_| {}).is_err());
     }
 

@@ -13,10 +13,10 @@ use rustix::time::{clock_gettime, clock_gettime_dynamic, ClockId, DynamicClockId
 const SLOWEST: u64 = 100;
 
 /// A wall clock that is off by more is worth a line in the log, in milliseconds.
-const WORTH_SAYING: u64 = 5_000;
+const WORTH_SAYING_MILLISECONDS: u64 = 5_000;
 
 /// It is said again where it is off otherwise by more than that.
-const WORTH_REPEATING: u64 = 60_000;
+const WORTH_REPEATING_MILLISECONDS: u64 = 60_000;
 
 /// The cluster's time, as one server knows it. All times are in milliseconds.
 #[derive(Debug, Default)]
@@ -73,11 +73,11 @@ impl Clock {
     pub fn compare(&mut self, wall: u64, since_start: u64) -> Option<i64> {
         self.offset?;
         let off = difference(wall, self.now(since_start));
-        if off.unsigned_abs() <= WORTH_SAYING {
+        if off.unsigned_abs() <= WORTH_SAYING_MILLISECONDS {
             self.said = None;
             return None;
         }
-        if self.said.is_some_and(|said| said.abs_diff(off) <= WORTH_REPEATING) {
+        if self.said.is_some_and(|said| said.abs_diff(off) <= WORTH_REPEATING_MILLISECONDS) {
             return None;
         }
         self.said = Some(off);
@@ -138,82 +138,85 @@ fn milliseconds(time: Timespec) -> u64 {
 mod tests {
     use super::*;
 
-    const WALL: u64 = 1_700_000_000_000;
-    const HOUR: u64 = 3_600_000;
+    const WALL_MILLISECONDS: u64 = 1_700_000_000_000;
+    const HOUR_MILLISECONDS: u64 = 3_600_000;
 
     #[test]
     fn a_head_begins_at_the_wall_clock_and_never_steps() {
         let mut clock = Clock::default();
-        clock.lead(WALL, 1_000);
-        assert_eq!(clock.now(1_500), WALL + 500);
+        clock.lead(WALL_MILLISECONDS, 1_000);
+        assert_eq!(clock.now(1_500), WALL_MILLISECONDS + 500);
         // The wall clock steps by an hour, either way: a second later the clock is off by ten milliseconds at most.
-        clock.lead(WALL + HOUR, 2_000);
-        assert_eq!(clock.now(2_000), WALL + 1_000 + 10);
-        clock.lead(WALL - HOUR, 3_000);
-        assert_eq!(clock.now(3_000), WALL + 2_000);
+        clock.lead(WALL_MILLISECONDS + HOUR_MILLISECONDS, 2_000);
+        assert_eq!(clock.now(2_000), WALL_MILLISECONDS + 1_000 + 10);
+        clock.lead(WALL_MILLISECONDS - HOUR_MILLISECONDS, 3_000);
+        assert_eq!(clock.now(3_000), WALL_MILLISECONDS + 2_000);
     }
 
     #[test]
     fn a_wall_clock_that_is_off_is_told_and_told_again_where_it_steps() {
         let mut clock = Clock::default();
-        assert_eq!(clock.compare(WALL, 1_000), None, "nobody has told a time yet");
-        clock.follow(WALL, 1_000);
+        assert_eq!(clock.compare(WALL_MILLISECONDS, 1_000), None, "nobody has told a time yet");
+        clock.follow(WALL_MILLISECONDS, 1_000);
         let mut shows = |wall, since_start| clock.compare(wall, since_start);
-        assert_eq!(shows(WALL + 6_000, 2_000), None);
-        assert_eq!(shows(WALL + HOUR, 1_000), Some(HOUR as i64));
-        assert_eq!(shows(WALL + HOUR + 1_000, 1_500), None);
-        assert_eq!(shows(WALL - HOUR, 1_000), Some(-(HOUR as i64)));
-        assert_eq!(shows(WALL, 1_000), None);
-        assert_eq!(shows(WALL - HOUR, 1_000), Some(-(HOUR as i64)));
+        assert_eq!(shows(WALL_MILLISECONDS + 6_000, 2_000), None);
+        assert_eq!(shows(WALL_MILLISECONDS + HOUR_MILLISECONDS, 1_000), Some(HOUR_MILLISECONDS as i64));
+        assert_eq!(shows(WALL_MILLISECONDS + HOUR_MILLISECONDS + 1_000, 1_500), None);
+        assert_eq!(shows(WALL_MILLISECONDS - HOUR_MILLISECONDS, 1_000), Some(-(HOUR_MILLISECONDS as i64)));
+        assert_eq!(shows(WALL_MILLISECONDS, 1_000), None);
+        assert_eq!(shows(WALL_MILLISECONDS - HOUR_MILLISECONDS, 1_000), Some(-(HOUR_MILLISECONDS as i64)));
     }
 
     #[test]
     fn after_a_pause_time_begins_with_the_wall_clock_or_the_last_entry() {
         let mut clock = Clock::default();
-        clock.go_on_from(WALL - HOUR, WALL, 1_000);
-        assert_eq!(clock.now(1_500), WALL + 500);
+        clock.go_on_from(WALL_MILLISECONDS - HOUR_MILLISECONDS, WALL_MILLISECONDS, 1_000);
+        assert_eq!(clock.now(1_500), WALL_MILLISECONDS + 500);
         let mut clock = Clock::default();
-        clock.go_on_from(WALL + HOUR, WALL, 1_000);
-        clock.lead(WALL, 1_000);
-        assert_eq!(clock.now(1_500), WALL + HOUR + 500);
+        clock.go_on_from(WALL_MILLISECONDS + HOUR_MILLISECONDS, WALL_MILLISECONDS, 1_000);
+        clock.lead(WALL_MILLISECONDS, 1_000);
+        assert_eq!(clock.now(1_500), WALL_MILLISECONDS + HOUR_MILLISECONDS + 500);
     }
 
     #[test]
     fn a_new_head_goes_on_where_the_old_one_was() {
         let mut clock = Clock::default();
         assert_eq!(clock.now(5), 0);
-        clock.follow(WALL, 1_000);
-        clock.lead(WALL + HOUR, 1_100);
-        assert!(clock.now(1_100) <= WALL + 101, "its own wall clock, which is an hour ahead, counts slowly");
-        clock.took(WALL + 50_000, 1_200);
-        assert_eq!(clock.now(1_300), WALL + 50_100);
+        clock.follow(WALL_MILLISECONDS, 1_000);
+        clock.lead(WALL_MILLISECONDS + HOUR_MILLISECONDS, 1_100);
+        assert!(
+            clock.now(1_100) <= WALL_MILLISECONDS + 101,
+            "its own wall clock, which is an hour ahead, counts slowly"
+        );
+        clock.took(WALL_MILLISECONDS + 50_000, 1_200);
+        assert_eq!(clock.now(1_300), WALL_MILLISECONDS + 50_100);
     }
 
     #[test]
     fn who_follows_is_not_set_back_by_what_comes_late() {
         let mut clock = Clock::default();
-        clock.follow(WALL, 0);
+        clock.follow(WALL_MILLISECONDS, 0);
         // It was stopped for five seconds, and reads what was said when they began.
-        clock.follow(WALL + 10, 5_000);
-        assert!(clock.now(5_000) >= WALL + 4_900);
-        clock.follow(WALL + 5_000, 5_000);
-        assert_eq!(clock.now(5_000), WALL + 5_000);
+        clock.follow(WALL_MILLISECONDS + 10, 5_000);
+        assert!(clock.now(5_000) >= WALL_MILLISECONDS + 4_900);
+        clock.follow(WALL_MILLISECONDS + 5_000, 5_000);
+        assert_eq!(clock.now(5_000), WALL_MILLISECONDS + 5_000);
     }
 
     #[test]
     fn time_goes_back_slowly_from_the_first_entry_on() {
         let mut clock = Clock::default();
-        clock.took(WALL, 1_000_000);
-        clock.follow(WALL - HOUR, 1_001_000);
-        assert_eq!(clock.now(1_001_000), WALL + 1_000 - 10);
+        clock.took(WALL_MILLISECONDS, 1_000_000);
+        clock.follow(WALL_MILLISECONDS - HOUR_MILLISECONDS, 1_001_000);
+        assert_eq!(clock.now(1_001_000), WALL_MILLISECONDS + 1_000 - 10);
     }
 
     #[test]
     fn time_is_never_before_the_last_entry() {
         let mut clock = Clock::default();
-        clock.took(WALL, 10);
-        clock.follow(WALL - HOUR, 1_000_000);
-        assert!(clock.now(1_000_000) >= WALL);
+        clock.took(WALL_MILLISECONDS, 10);
+        clock.follow(WALL_MILLISECONDS - HOUR_MILLISECONDS, 1_000_000);
+        assert!(clock.now(1_000_000) >= WALL_MILLISECONDS);
         assert_eq!(Clock { last: 7, ..Clock::default() }.now(3), 7);
     }
 }

@@ -14,7 +14,7 @@ use crate::identity::{IdentityFiles, Role};
 use crate::memory::{usual_bound, Size};
 use crate::node::{self, gateway, keeping, Beginning, End, Limits};
 use crate::records::Cluster;
-use crate::recover::{self, Wanted};
+use crate::recover::{self, RecoverySettings};
 use crate::roster::MOST_MEMBERS;
 use crate::{master, say, status, up};
 
@@ -40,7 +40,7 @@ impl Which {
 
 #[derive(Args)]
 #[command(group(ArgGroup::new("beginning").required(true).args(["first", "join"])))]
-pub struct Node {
+pub struct NodeOptions {
     #[command(flatten)]
     which: Which,
     /// Where to listen to other nodes
@@ -91,7 +91,7 @@ pub struct Node {
 }
 
 #[derive(Args)]
-pub struct Master {
+pub struct MasterOptions {
     #[command(flatten)]
     which: Which,
     /// Have etcd compacted by others: this candidate never has it forget what was overwritten
@@ -109,7 +109,7 @@ pub struct Master {
 }
 
 #[derive(Subcommand)]
-pub enum OfCluster {
+pub enum ClusterCommand {
     /// Make a cluster in etcd, whose first chain has servers 1 to N
     Create {
         #[command(flatten)]
@@ -161,7 +161,7 @@ pub enum OfCluster {
         cq: Option<String>,
     },
     /// Make an authority, and with --role certificates that it has signed, by the program openssl
-    Certificates(certificates::Wanted),
+    Certificates(certificates::CertificateOptions),
     /// Start a whole cluster on this machine, to try it
     Up {
         /// How many nodes
@@ -182,11 +182,11 @@ pub enum OfCluster {
     },
 }
 
-impl OfCluster {
+impl ClusterCommand {
     /// Which program cq was given, where one is needed.
     pub fn cq(&self) -> Option<Option<String>> {
         match self {
-            OfCluster::Up { cq, .. } | OfCluster::Recover { cq, .. } => Some(cq.clone()),
+            ClusterCommand::Up { cq, .. } | ClusterCommand::Recover { cq, .. } => Some(cq.clone()),
             _ => None,
         }
     }
@@ -198,17 +198,17 @@ fn runtime() -> Result<tokio::runtime::Runtime> {
 }
 
 /// Runs a node, with the program cq.
-pub fn run_node(node: Node, program: String) -> Result<()> {
+pub fn run_node(node: NodeOptions, program: String) -> Result<()> {
     let beginning = node.first.map_or(Beginning::Join, Beginning::First);
     let config = node.gateway_config;
     let advertise = node.advertise_gateway;
-    let gateway = node.gateway.map(|listen| gateway::Settings { place: Place { listen, advertise }, config });
+    let gateway = node.gateway.map(|listen| gateway::GatewaySettings { place: Place { listen, advertise }, config });
     let place = Place { listen: node.listen, advertise: node.advertise };
     let memory = node.memory.unwrap_or_else(usual_bound);
     let limits = Limits { memory: memory.0, joiner: node.joiner_memory.0 };
     let (is_durable, size, reserve) = (node.durable, node.journal_size.0, node.journal_reserve.0);
-    let journal = node.journal.map(|folder| keeping::Settings { folder, is_durable, size, reserve });
-    let settings = node::Settings { place, beginning, program, gateway, limits, journal, trace: node.trace };
+    let journal = node.journal.map(|folder| keeping::JournalSettings { folder, is_durable, size, reserve });
+    let settings = node::NodeSettings { place, beginning, program, gateway, limits, journal, trace: node.trace };
     let runtime = runtime()?;
     let end = runtime.block_on(async { node::run(node.which.find(&[Role::Node]).await?, settings).await })?;
     runtime.shutdown_background();
@@ -222,22 +222,22 @@ pub fn run_node(node: Node, program: String) -> Result<()> {
 }
 
 /// Runs a candidate for the master, with the program cq.
-pub fn run_master(master: &Master, program: &str) -> Result<()> {
+pub fn run_master(master: &MasterOptions, program: &str) -> Result<()> {
     let when = match (master.no_compaction, master.compaction) {
         (true, _) => When::Never,
         (false, true) => When::Always,
         (false, false) => When::Alone,
     };
-    let compaction = compaction::Settings { when, kept: Duration::from_secs(master.compaction_kept) };
+    let compaction = compaction::CompactionSettings { when, kept: Duration::from_secs(master.compaction_kept) };
     runtime()?.block_on(async { master::run(master.which.find(&[Role::Master]).await?, program, compaction).await })
 }
 
 /// Does what is asked about a cluster. The program is there where one is needed.
-pub fn run_cluster(asked: OfCluster, program: Option<String>) -> Result<()> {
+pub fn run_cluster(asked: ClusterCommand, program: Option<String>) -> Result<()> {
     runtime()?.block_on(async {
         match asked {
-            OfCluster::Create { which, nodes } => create(&which, nodes).await,
-            OfCluster::Status { which, json } => {
+            ClusterCommand::Create { which, nodes } => create(&which, nodes).await,
+            ClusterCommand::Status { which, json } => {
                 let status = status::look(&which.find(&[]).await?).await?;
                 if json {
                     say(&serde_json::to_string(&status)?);
@@ -246,17 +246,17 @@ pub fn run_cluster(asked: OfCluster, program: Option<String>) -> Result<()> {
                 }
                 Ok(())
             }
-            OfCluster::Log { which } => {
+            ClusterCommand::Log { which } => {
                 status::log(&which.find(&[]).await?).await?.iter().for_each(|line| say(line));
                 Ok(())
             }
-            OfCluster::Recover { which, from, journal, incarnation, force, fenced, silence, dry_run, .. } => {
+            ClusterCommand::Recover { which, from, journal, incarnation, force, fenced, silence, dry_run, .. } => {
                 let identity = which.files.identity(&which.cluster, &[])?;
                 let program = program.unwrap_or_else(|| "cq".into());
                 let (cluster, etcd) = (which.cluster, which.etcd);
                 let (is_forced, is_dry, is_fenced) = (force, dry_run, fenced);
                 let silence = Duration::from_secs(silence);
-                recover::recover(&Wanted {
+                recover::recover(&RecoverySettings {
                     cluster,
                     etcd,
                     identity,
@@ -271,14 +271,14 @@ pub fn run_cluster(asked: OfCluster, program: Option<String>) -> Result<()> {
                 })
                 .await
             }
-            OfCluster::Certificates(wanted) => {
+            ClusterCommand::Certificates(wanted) => {
                 certificates::make(&wanted)?.iter().for_each(|line| say(line));
                 Ok(())
             }
-            OfCluster::Up { nodes, folder, gateway_config, certificates, .. } => {
+            ClusterCommand::Up { nodes, folder, gateway_config, certificates, .. } => {
                 test_size(nodes)?;
                 let program = program.unwrap_or_else(|| "cq".into());
-                let settings = up::Settings { nodes, folder, program, gateway_config, certificates };
+                let settings = up::UpSettings { nodes, folder, program, gateway_config, certificates };
                 up::up(&settings).await
             }
         }

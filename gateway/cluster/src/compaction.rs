@@ -29,7 +29,7 @@ pub enum When {
 
 /// How a candidate compacts.
 #[derive(Clone, Copy, Debug)]
-pub struct Settings {
+pub struct CompactionSettings {
     pub when: When,
     /// What was overwritten stays for so long at least.
     pub kept: Duration,
@@ -55,8 +55,8 @@ impl Mark {
 }
 
 /// Compacts again and again, if it is to.
-pub async fn keep(cluster: Cluster, settings: Settings) {
-    let Settings { when, kept } = settings;
+pub async fn keep(cluster: Cluster, settings: CompactionSettings) {
+    let CompactionSettings { when, kept } = settings;
     if when == When::Never {
         tracing::info!("this candidate doesn't compact etcd");
         return;
@@ -74,8 +74,8 @@ pub async fn keep(cluster: Cluster, settings: Settings) {
 }
 
 /// Compacts if it is time. What is done, and what isn't, is told where that has changed.
-async fn look(cluster: &Cluster, settings: Settings, told: &mut Option<bool>) -> Result<()> {
-    let Settings { when, kept } = settings;
+async fn look(cluster: &Cluster, settings: CompactionSettings, told: &mut Option<bool>) -> Result<()> {
+    let CompactionSettings { when, kept } = settings;
     let others = count_others(&cluster.etcd).await?;
     let may = others == 0 || when == When::Always;
     if told.replace(may) != Some(may) {

@@ -223,7 +223,7 @@ mod tests {
 
     use super::*;
     use crate::records::{Beat, Failing, GatewayPhase, Readiness, Witnesses, DISK_HANGS};
-    use crate::silence::Look;
+    use crate::silence::BeatsLook;
 
     const HALF: Duration = Duration::from_millis(500);
 
@@ -266,7 +266,7 @@ mod tests {
                     (server, revision, Beat { joins: joins == Some(server), hears: hears(server), condemned, ..said })
                 };
                 let beats = beats.map(with_beat).collect();
-                self.silence.look(Look { beats, began: self.now, slowest: Duration::ZERO }, &self.roster);
+                self.silence.look(BeatsLook { beats, began: self.now, slowest: Duration::ZERO }, &self.roster);
             }
         }
 

@@ -34,7 +34,7 @@ pub const LONGEST: Duration = Duration::from_secs(3);
 const QUIET: Duration = Duration::from_secs(5);
 
 /// No answer is longer.
-const LONGEST_ANSWER: usize = 64 << 20;
+const LONGEST_ANSWER_BYTES: usize = 64 << 20;
 
 /// What etcd says of a database that is as large as its quota.
 const FULL: &str = "database space exceeded";
@@ -77,7 +77,7 @@ pub enum Operation {
 
 /// A key as it was read.
 #[derive(Clone, Debug, PartialEq, Eq)]
-pub struct Entry {
+pub struct KeyValue {
     pub key: String,
     pub value: String,
     pub revision: i64,
@@ -89,7 +89,7 @@ pub struct Outcome {
     /// Whether its guards held.
     pub succeeded: bool,
     /// What each operation read, in their order.
-    pub read: Vec<Vec<Entry>>,
+    pub read: Vec<Vec<KeyValue>>,
     /// The revision of all of etcd by then.
     pub revision: i64,
 }
@@ -108,7 +108,7 @@ pub struct Etcd {
 type Answers = JoinSet<(usize, Result<Value, EtcdError>)>;
 
 /// What was heard of them for a while.
-enum Heard {
+enum MemberAnswer {
     /// This member answers.
     Answer(usize, Value),
     /// One doesn't and another one wasn't asked, or all were asked and none does.
@@ -195,12 +195,12 @@ impl Etcd {
             asked.spawn(async move { (member, etcd.post(member, path, body).await) });
             let is_last = turn + 1 >= count;
             match hear(&mut asked, end.min(Instant::now() + pause(turn / count)), is_last, &mut why).await {
-                Heard::Answer(member, answer) => {
+                MemberAnswer::Answer(member, answer) => {
                     self.at.store(member, Ordering::Relaxed);
                     self.note(begun, end);
                     return Ok(answer);
                 }
-                Heard::Failure if is_last => break,
+                MemberAnswer::Failure if is_last => break,
                 _ if Instant::now() >= end => break,
                 _ => {}
             }
@@ -231,7 +231,7 @@ impl Etcd {
         let mut bytes = Vec::new();
         while let Some(chunk) = answer.body_mut().data().await {
             bytes.extend_from_slice(&chunk.map_err(|error| EtcdError::Unreachable(error.to_string()))?);
-            if bytes.len() > LONGEST_ANSWER {
+            if bytes.len() > LONGEST_ANSWER_BYTES {
                 return Err(EtcdError::Refused("its answer is too long".into()));
             }
         }
@@ -276,18 +276,18 @@ fn pause(round: usize) -> Duration {
 }
 
 /// What is heard by then of those that were asked. Unless all were asked, a failure is heard at once, since the next one may do.
-async fn hear(asked: &mut Answers, until: Instant, is_last: bool, why: &mut Option<EtcdError>) -> Heard {
+async fn hear(asked: &mut Answers, until: Instant, is_last: bool, why: &mut Option<EtcdError>) -> MemberAnswer {
     loop {
         let heard = match timeout_at(until, asked.join_next()).await {
-            Ok(Some(Ok((member, Ok(answer))))) => return Heard::Answer(member, answer),
+            Ok(Some(Ok((member, Ok(answer))))) => return MemberAnswer::Answer(member, answer),
             Ok(Some(Ok((_, Err(error))))) => error,
             Ok(Some(Err(error))) => EtcdError::Unreachable(error.to_string()),
-            Ok(None) => return Heard::Failure,
-            Err(_) => return Heard::Silence,
+            Ok(None) => return MemberAnswer::Failure,
+            Err(_) => return MemberAnswer::Silence,
         };
         *why = Some(heard);
         if !is_last {
-            return Heard::Failure;
+            return MemberAnswer::Failure;
         }
     }
 }
@@ -378,17 +378,17 @@ fn outcome(answer: &Value) -> Option<Outcome> {
     Some(Outcome { succeeded, read, revision })
 }
 
-fn entries(found: &Value) -> Option<Vec<Entry>> {
+fn entries(found: &Value) -> Option<Vec<KeyValue>> {
     found.as_array().map_or(Some(Vec::new()), |found| found.iter().map(entry).collect())
 }
 
-fn entry(found: &Value) -> Option<Entry> {
+fn entry(found: &Value) -> Option<KeyValue> {
     let text = |name: &str| {
         let bytes = base64::decode(found.get(name).and_then(Value::as_str).unwrap_or_default()).ok()?;
         String::from_utf8(bytes).ok()
     };
     let revision = found.get("mod_revision")?.as_str()?.parse().ok()?;
-    Some(Entry { key: text("key")?, value: text("value")?, revision })
+    Some(KeyValue { key: text("key")?, value: text("value")?, revision })
 }
 
 #[cfg(test)]
@@ -407,7 +407,7 @@ mod tests {
         ]});
         let outcome = outcome(&answer).unwrap();
         assert!(!outcome.succeeded && outcome.revision == 7);
-        let read = Entry { key: "a".into(), value: "b".into(), revision: 5 };
+        let read = KeyValue { key: "a".into(), value: "b".into(), revision: 5 };
         assert_eq!(outcome.read, [vec![], vec![read], vec![]]);
     }
 

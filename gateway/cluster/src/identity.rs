@@ -31,7 +31,7 @@ use crate::pem::{certified_key, Pem};
 pub const DOMAIN: &str = "hobbychair.internal";
 
 /// A part of a name of hosts isn't longer.
-const LONGEST_LABEL: usize = 63;
+const LONGEST_LABEL_BYTES: usize = 63;
 
 const DAY: Duration = Duration::from_secs(24 * 60 * 60);
 
@@ -164,7 +164,7 @@ pub struct Identity {
 
 /// Who is at the other end, by its certificate, which the authority has signed.
 #[derive(Clone, Debug)]
-pub struct Peer {
+pub struct PeerCertificate {
     certificate: Certificate,
     cluster: String,
 }
@@ -257,8 +257,8 @@ impl Identity {
         }
     }
 
-    fn peer(&self, certificate: &Certificate) -> Peer {
-        Peer { certificate: certificate.clone(), cluster: self.cluster.clone() }
+    fn peer(&self, certificate: &Certificate) -> PeerCertificate {
+        PeerCertificate { certificate: certificate.clone(), cluster: self.cluster.clone() }
     }
 
     /// By which others know the own certificate.
@@ -285,7 +285,7 @@ impl Identity {
     }
 
     /// Speaks TLS to whoever made the connection, and has a certificate of the authority.
-    pub async fn accept(&self, stream: TcpStream) -> io::Result<(server::TlsStream<TcpStream>, Peer)> {
+    pub async fn accept(&self, stream: TcpStream) -> io::Result<(server::TlsStream<TcpStream>, PeerCertificate)> {
         let stream = TlsAcceptor::from(self.server.clone()).accept(stream).await.map_err(said)?;
         let shown = stream.get_ref().1.peer_certificates().and_then(<[Certificate]>::first);
         let peer = shown.map(|certificate| self.peer(certificate));
@@ -293,7 +293,7 @@ impl Identity {
     }
 }
 
-impl Peer {
+impl PeerCertificate {
     /// Whether the certificate is one of that role, of the cluster.
     pub fn is(&self, role: Role) -> bool {
         let name = role.name(&self.cluster);
@@ -319,9 +319,9 @@ impl Peer {
 pub fn test_cluster(name: &str) -> Result<()> {
     let is_good = |letter: char| letter.is_ascii_lowercase() || letter.is_ascii_digit() || letter == '-';
     let has_ends = !name.starts_with('-') && !name.ends_with('-');
-    if name.is_empty() || name.len() > LONGEST_LABEL || !has_ends || !name.chars().all(is_good) {
+    if name.is_empty() || name.len() > LONGEST_LABEL_BYTES || !has_ends || !name.chars().all(is_good) {
         bail!(
-            "{name:?} is no name of a cluster with certificates: that has 1 to {LONGEST_LABEL} small letters, digits and \
+            "{name:?} is no name of a cluster with certificates: that has 1 to {LONGEST_LABEL_BYTES} small letters, digits and \
              hyphens, and no hyphen at an end"
         );
     }

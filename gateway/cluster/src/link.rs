@@ -9,7 +9,7 @@ use std::time::Duration;
 use bytes::Bytes;
 use hobbychair_bytes::commands::Place;
 use hobbychair_bytes::messages::Message;
-use hobbychair_bytes::parts::{Frames, FRAME_LIMIT};
+use hobbychair_bytes::parts::{Frames, FRAME_LIMIT_BYTES};
 use tokio::sync::Notify;
 use tokio::time::{interval, sleep, timeout, MissedTickBehavior};
 
@@ -32,7 +32,7 @@ const PAUSE: Duration = Duration::from_millis(100);
 const PING: Duration = Duration::from_millis(500);
 
 /// So much is written at once.
-const MOST_WRITTEN: usize = 1 << 20;
+const MOST_WRITTEN_BYTES: usize = 1 << 20;
 
 /// So long an acknowledgement waits for others, or for whatever else there is to write. No answer waits for it.
 const GATHERING: Duration = Duration::from_millis(2);
@@ -149,7 +149,7 @@ impl Link {
         let (mut last, mut bytes) = (sent, Vec::new());
         let first = queue.frames.partition_point(|(number, _)| *number <= sent);
         for (number, frame) in queue.frames.range(first..) {
-            if bytes.len() >= MOST_WRITTEN {
+            if bytes.len() >= MOST_WRITTEN_BYTES {
                 break;
             }
             bytes.extend_from_slice(frame);
@@ -192,7 +192,7 @@ impl Link {
     async fn greet(&self, registration: &Registration, node: &Shared) -> io::Result<(u64, Frames<Reading>, Writing)> {
         let connecting = transport::connect(node.cluster.identity.as_deref(), registration);
         let (reading, mut writing) = timeout(CONNECTING, connecting).await??;
-        let mut reading = Frames::new(reading, FRAME_LIMIT);
+        let mut reading = Frames::new(reading, FRAME_LIMIT_BYTES);
         timeout(QUIET, transport::write(&mut writing, &node.greeting(self.to).bytes())).await??;
         match read(&mut reading).await? {
             Frame::Welcome { received, gone } => {

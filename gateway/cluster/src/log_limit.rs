@@ -6,17 +6,17 @@ use std::time::{Duration, Instant};
 use crate::lock;
 
 /// So many lines may be written in each of these times.
-const MOST: u32 = 10;
+const MOST_LINES: u32 = 10;
 const TIME: Duration = Duration::from_secs(1);
 
 /// Counts events of one kind, so that ten lines a second tell of all of them.
 #[derive(Debug, Default)]
 pub struct LogLimit {
-    state: Mutex<State>,
+    state: Mutex<LimitState>,
 }
 
 #[derive(Debug, Default)]
-struct State {
+struct LimitState {
     /// Events since the last line.
     count: u64,
     /// When the first line of this second was written, and how many were since then.
@@ -32,7 +32,7 @@ impl LogLimit {
         if !state.begun.is_some_and(|begun| begun.elapsed() < TIME) {
             (state.begun, state.written) = (Some(Instant::now()), 0);
         }
-        if state.written == MOST {
+        if state.written == MOST_LINES {
             return None;
         }
         state.written += 1;
@@ -47,7 +47,7 @@ mod tests {
     #[test]
     fn ten_lines_a_second_tell_of_all() {
         let limit = LogLimit::default();
-        for _ in 0..MOST {
+        for _ in 0..MOST_LINES {
             assert_eq!(limit.count(), Some(1));
         }
         assert_eq!((limit.count(), limit.count()), (None, None));

@@ -12,15 +12,15 @@ use tokio::sync::mpsc::{unbounded_channel, UnboundedReceiver};
 use tokio::sync::Notify;
 use tokio::time::{sleep, timeout};
 
-use crate::child::{Child, Told};
+use crate::child::{Child, ChildEvent};
 use crate::compaction;
 use crate::condition;
 use crate::contact::Contact;
 use crate::decision::{Decision, Letter, View};
-use crate::etcd::{Entry, EtcdError, Guard, Operation};
+use crate::etcd::{EtcdError, Guard, KeyValue, Operation};
 use crate::records::{self, last_number, server_and_number, Beat, Cluster, Line, Piece};
 use crate::roster::Roster;
-use crate::silence::{Look, Silence};
+use crate::silence::{BeatsLook, Silence};
 
 /// A candidate looks so often, and whenever something may have changed.
 const ROUND: Duration = Duration::from_millis(500);
@@ -39,31 +39,31 @@ const CHILD_PATIENCE: Duration = Duration::from_secs(30);
 
 /// A message that `cq master` puts for a server.
 #[derive(Clone, Debug)]
-struct Order {
+struct MasterMessage {
     server: u32,
     number: u64,
     piece: Bytes,
 }
 
 /// `cq master`, fed with the log.
-struct Core {
+struct MasterCore {
     program: String,
     servers: u32,
     child: Child,
-    told: UnboundedReceiver<Told>,
+    told: UnboundedReceiver<ChildEvent>,
 }
 
-impl Core {
-    fn start(program: &str, servers: u32) -> Result<Core> {
+impl MasterCore {
+    fn start(program: &str, servers: u32) -> Result<MasterCore> {
         let (tell, told) = unbounded_channel();
         let words = ["master".to_string(), "--servers".into(), servers.to_string()];
         let child = Child::start(program, &words, move |one| drop(tell.send(one)))?;
-        Ok(Core { program: program.into(), servers, child, told })
+        Ok(MasterCore { program: program.into(), servers, child, told })
     }
 
     /// The same from its start, fed with these lines.
     async fn begin_anew(&mut self, lines: &[Line]) -> Result<()> {
-        *self = Core::start(&self.program, self.servers)?;
+        *self = MasterCore::start(&self.program, self.servers)?;
         for line in lines {
             while let Err(code) = self.feed(line).await? {
                 await_memory(code).await?;
@@ -73,7 +73,7 @@ impl Core {
     }
 
     /// What is put behind a line, or the number of its refusal.
-    async fn feed(&mut self, line: &Line) -> Result<Result<Vec<Order>, u32>> {
+    async fn feed(&mut self, line: &Line) -> Result<Result<Vec<MasterMessage>, u32>> {
         let (command, gone) = match line {
             Line::Detect { server, .. } => (Command::Detect(*server), Some(*server)),
             Line::Join { server } => (Command::Join(*server), None),
@@ -99,18 +99,18 @@ impl Core {
     }
 
     /// What the command comes to, with all that is put behind it. Where it is refused nothing has happened.
-    async fn ask(&mut self, command: Command) -> Result<Result<Vec<Order>, u32>> {
+    async fn ask(&mut self, command: Command) -> Result<Result<Vec<MasterMessage>, u32>> {
         self.child.give(command.frame());
         let mut orders = Vec::new();
         let mut waits = BTreeSet::new();
         let mut asked = None;
         loop {
             match (self.next(&mut orders, &mut waits).await?, asked) {
-                (Heard::Some, _) => continue,
-                (Heard::All, _) => asked = waits.pop_first(),
-                (Heard::Refused(code), None) => return Ok(Err(code)),
+                (AnswerProgress::Some, _) => continue,
+                (AnswerProgress::All, _) => asked = waits.pop_first(),
+                (AnswerProgress::Refused(code), None) => return Ok(Err(code)),
                 // The command has happened, and what waits is asked for again.
-                (Heard::Refused(code), Some(_)) => await_memory(code).await?,
+                (AnswerProgress::Refused(code), Some(_)) => await_memory(code).await?,
             }
             match asked {
                 Some(party) => self.child.give(Command::More(party).frame()),
@@ -119,22 +119,22 @@ impl Core {
         }
     }
 
-    async fn next(&mut self, orders: &mut Vec<Order>, waits: &mut BTreeSet<Party>) -> Result<Heard> {
+    async fn next(&mut self, orders: &mut Vec<MasterMessage>, waits: &mut BTreeSet<Party>) -> Result<AnswerProgress> {
         let told = timeout(CHILD_PATIENCE, self.told.recv()).await.context("cq master doesn't answer")?;
         let responses = match told {
-            Some(Told::Responses(responses)) => responses,
-            Some(Told::Ended(why)) => bail!("cq master is gone: {why}"),
+            Some(ChildEvent::Responses(responses)) => responses,
+            Some(ChildEvent::Ended(why)) => bail!("cq master is gone: {why}"),
             None => bail!("cq master is gone"),
         };
-        let mut heard = Heard::Some;
+        let mut heard = AnswerProgress::Some;
         for response in responses {
             match response {
                 Response::Put { to: Party::Server(server), place, piece } => {
-                    orders.push(Order { server, number: place.number, piece });
+                    orders.push(MasterMessage { server, number: place.number, piece });
                 }
                 Response::Waiting(party) => drop(waits.insert(party)),
-                Response::Refused(code) | Response::Unread(code) => heard = Heard::Refused(code),
-                response if response.is_last() => heard = Heard::All,
+                Response::Refused(code) | Response::Unread(code) => heard = AnswerProgress::Refused(code),
+                response if response.is_last() => heard = AnswerProgress::All,
                 _ => {}
             }
         }
@@ -143,7 +143,7 @@ impl Core {
 }
 
 /// What was heard of an answer.
-enum Heard {
+enum AnswerProgress {
     Some,
     All,
     Refused(u32),
@@ -168,13 +168,13 @@ struct Round {
 }
 
 /// One candidate.
-pub struct Master {
+pub struct MasterCandidate {
     cluster: Cluster,
-    core: Core,
+    core: MasterCore,
     roster: Roster,
     lines: Vec<Line>,
     /// A line that `cq master` was fed with and of which isn't known whether it is in the log, with what it put.
-    open: Option<(Line, Vec<Order>)>,
+    open: Option<(Line, Vec<MasterMessage>)>,
     silence: Silence,
     begun: Instant,
     why: Option<String>,
@@ -186,15 +186,15 @@ pub struct Master {
 }
 
 /// Runs a candidate until its cluster is another one, or it fails.
-pub async fn run(cluster: Cluster, program: &str, compaction: compaction::Settings) -> Result<()> {
+pub async fn run(cluster: Cluster, program: &str, compaction: compaction::CompactionSettings) -> Result<()> {
     let cluster = cluster.for_long();
     let look = Arc::new(Notify::new());
     tokio::spawn(condition::watch(cluster.etcd.clone(), Arc::default()));
     tokio::spawn(compaction::keep(cluster.clone(), compaction));
     tokio::spawn(cluster.etcd.clone().watch(cluster.keys.master(), look.clone()));
     let servers = cluster.settings.servers;
-    let mut master = Master {
-        core: Core::start(program, servers)?,
+    let mut master = MasterCandidate {
+        core: MasterCore::start(program, servers)?,
         cluster,
         roster: Roster::of_first_chain(servers),
         lines: Vec::new(),
@@ -215,7 +215,7 @@ pub async fn run(cluster: Cluster, program: &str, compaction: compaction::Settin
     }
 }
 
-impl Master {
+impl MasterCandidate {
     /// Reads, and appends a line at most. Says whether there may be more to do at once.
     async fn round(&mut self) -> Result<bool> {
         let began = self.begun.elapsed();
@@ -241,7 +241,7 @@ impl Master {
         }
         let mut letters = round.letters;
         letters.retain(|letter| !self.unreadable.contains(&letter.server));
-        let look = Look { beats: round.beats, began, slowest: self.cluster.etcd.slowest() };
+        let look = BeatsLook { beats: round.beats, began, slowest: self.cluster.etcd.slowest() };
         self.silence.look(look, &self.roster);
         let view = View {
             keys: &self.cluster.keys,
@@ -291,7 +291,7 @@ impl Master {
             // What other error there is ends it.
             Err(error) => return error.downcast::<EtcdError>().map(Err),
         };
-        let [lines, letters, beats, condemned, chain]: [Vec<Entry>; 5] =
+        let [lines, letters, beats, condemned, chain]: [Vec<KeyValue>; 5] =
             read.try_into().ok().context("etcd answers with too little")?;
         let line = chain.first().map(records::value::<records::Chain>).transpose()?.map_or(0, |chain| chain.line);
         if line < self.roster.line {
@@ -341,7 +341,7 @@ impl Master {
     }
 
     /// What `cq master` puts behind a line that may become the next one, or the number of its refusal.
-    async fn orders_behind(&mut self, line: &Line) -> Result<Result<Vec<Order>, u32>> {
+    async fn orders_behind(&mut self, line: &Line) -> Result<Result<Vec<MasterMessage>, u32>> {
         match self.open.take() {
             Some((open, orders)) if open == *line => return Ok(Ok(orders)),
             Some(_) => self.core.begin_anew(&self.lines).await?,
@@ -392,14 +392,14 @@ impl Master {
     }
 }
 
-fn beat(entry: &Entry) -> Option<(u32, i64, Beat)> {
+fn beat(entry: &KeyValue) -> Option<(u32, i64, Beat)> {
     let beat = records::value(entry).map_err(|error| tracing::warn!("{error:#}")).ok()?;
     Some((last_number(&entry.key)?, entry.revision, beat))
 }
 
-fn in_order(mut letters: Vec<Entry>) -> Vec<Letter> {
+fn in_order(mut letters: Vec<KeyValue>) -> Vec<Letter> {
     letters.sort_by_key(|entry| entry.revision);
-    let letter = |entry: &Entry| {
+    let letter = |entry: &KeyValue| {
         let Piece(piece) = records::value(entry).map_err(|error| tracing::warn!("{error:#}")).ok()?;
         let (server, number) = server_and_number(&entry.key)?;
         Some(Letter { server, number, piece })

@@ -15,10 +15,10 @@ const UNITS: [(&str, u32); 4] = [("KiB", 10), ("MiB", 20), ("GiB", 30), ("TiB", 
 
 /// What messages may use of a machine's memory, in hundredths: a copy of the store takes as much again, and the gateway has its
 /// part.
-const SHARE: u64 = 40;
+const SHARE_PERCENT: u64 = 40;
 
 /// Where nothing tells how much memory the machine has.
-const UNKNOWN: u64 = 1 << 30;
+const UNKNOWN_BYTES: u64 = 1 << 30;
 
 impl FromStr for Size {
     type Err = String;
@@ -50,8 +50,8 @@ impl fmt::Display for Size {
 pub fn usual_bound() -> Size {
     let of_machine = fs::read_to_string("/proc/meminfo").ok().and_then(|text| total_of(&text));
     let of_group = fs::read_to_string("/sys/fs/cgroup/memory.max").ok().and_then(|text| text.trim().parse().ok());
-    let total = of_machine.into_iter().chain(of_group).min().unwrap_or(UNKNOWN);
-    Size((total / 100 * SHARE).max(1))
+    let total = of_machine.into_iter().chain(of_group).min().unwrap_or(UNKNOWN_BYTES);
+    Size((total / 100 * SHARE_PERCENT).max(1))
 }
 
 /// The memory of a machine in bytes, as /proc/meminfo tells it.

@@ -8,7 +8,7 @@ use bytes::Bytes;
 use serde::{Deserialize, Serialize};
 use thiserror::Error;
 
-use crate::etcd::{behind, Entry, Etcd, Guard, Operation};
+use crate::etcd::{behind, Etcd, Guard, KeyValue, Operation};
 use crate::identity::{Fingerprint, Identity};
 
 /// The version of all that is here, and of what gateways have in the store.
@@ -18,11 +18,11 @@ pub const VERSION: u32 = 2;
 pub const OF_ALL: &str = "hobbychair/";
 
 /// No name of a cluster is longer.
-const LONGEST_NAME: usize = 64;
+const LONGEST_NAME_BYTES: usize = 64;
 
 /// What makes a cluster.
 #[derive(Clone, Debug, PartialEq, Eq, Serialize, Deserialize)]
-pub struct Settings {
+pub struct ClusterSettings {
     pub version: u32,
     /// Made at random with the cluster. Each transaction and each handshake is about it.
     pub incarnation: String,
@@ -409,7 +409,7 @@ pub fn server_and_number(key: &str) -> Option<(u32, u64)> {
 }
 
 /// What a key says. A value that can't be read is an error: nobody else writes there.
-pub fn value<T: for<'de> Deserialize<'de>>(entry: &Entry) -> Result<T> {
+pub fn value<T: for<'de> Deserialize<'de>>(entry: &KeyValue) -> Result<T> {
     serde_json::from_str(&entry.value).with_context(|| format!("{} has a value that can't be read", entry.key))
 }
 
@@ -445,7 +445,7 @@ struct OfAnother {
 pub struct Cluster {
     pub name: String,
     pub etcd: Etcd,
-    pub settings: Settings,
+    pub settings: ClusterSettings,
     pub keys: Keys,
     /// What this process is known by, where there are certificates.
     pub identity: Option<Arc<Identity>>,
@@ -469,7 +469,7 @@ impl Cluster {
         test_name(name)?;
         let read = etcd.transact(&[], &[Operation::Get(Cluster::key(name))], &[]).await?.read;
         let Some(found) = read.first().and_then(|found| found.first()) else { return Ok(None) };
-        let settings: Settings = value(found)?;
+        let settings: ClusterSettings = value(found)?;
         if settings.version != VERSION {
             bail!(
                 "cluster {name} is of version {}, and this program of version {VERSION}. Before version 0.2.0 no cluster goes \
@@ -491,8 +491,13 @@ impl Cluster {
         let etcd = Etcd::new(urls, identity.clone())?;
         test_name(name)?;
         let has_certificates = identity.is_some();
-        let settings =
-            Settings { version: VERSION, incarnation: random_name(), servers, has_certificates, recovered: None };
+        let settings = ClusterSettings {
+            version: VERSION,
+            incarnation: random_name(),
+            servers,
+            has_certificates,
+            recovered: None,
+        };
         let guard = Guard::IsAbsent(Cluster::key(name));
         match Cluster::put(name, etcd, settings, identity, &[guard]).await? {
             Some(cluster) => Ok(cluster),
@@ -504,7 +509,7 @@ impl Cluster {
     pub async fn put(
         name: &str,
         etcd: Etcd,
-        settings: Settings,
+        settings: ClusterSettings,
         identity: Option<Arc<Identity>>,
         guards: &[Guard],
     ) -> Result<Option<Cluster>> {
@@ -535,7 +540,7 @@ impl Cluster {
     }
 
     /// What these read at one moment. An error where this cluster isn't the one of its name then, as [`Cluster::test`] has it.
-    pub async fn read(&self, operations: &[Operation]) -> Result<Vec<Vec<Entry>>> {
+    pub async fn read(&self, operations: &[Operation]) -> Result<Vec<Vec<KeyValue>>> {
         let otherwise = [Operation::Get(self.keys.cluster.clone())];
         let outcome = self.etcd.transact(&[self.guard()], operations, &otherwise).await?;
         if !outcome.succeeded {
@@ -548,7 +553,7 @@ impl Cluster {
     /// Whether this cluster is still the one of its name, by what stands there. Where another incarnation does, the error is
     /// [`Replaced`]. Any other error says nothing of that: of data that are gone etcd may be given a copy, and requests go on
     /// meanwhile as they do where etcd is away.
-    pub fn test(&self, found: Option<&Entry>) -> Result<()> {
+    pub fn test(&self, found: Option<&KeyValue>) -> Result<()> {
         let Some(found) = found else { bail!("etcd knows no cluster {} any more", self.name) };
         if found.value == text(&self.settings) {
             return Ok(());
@@ -569,9 +574,9 @@ pub fn random_name() -> String {
 
 fn test_name(name: &str) -> Result<()> {
     let is_good = |letter: char| letter.is_ascii_alphanumeric() || letter == '-' || letter == '_';
-    if name.is_empty() || name.len() > LONGEST_NAME || !name.chars().all(is_good) {
+    if name.is_empty() || name.len() > LONGEST_NAME_BYTES || !name.chars().all(is_good) {
         bail!(
-            "{name:?} is no name of a cluster: that has 1 to {LONGEST_NAME} letters, digits, hyphens and underscores"
+            "{name:?} is no name of a cluster: that has 1 to {LONGEST_NAME_BYTES} letters, digits, hyphens and underscores"
         );
     }
     Ok(())
@@ -620,7 +625,7 @@ mod tests {
 
     #[test]
     fn another_incarnation_is_told_from_settings_that_are_gone() {
-        let settings = Settings {
+        let settings = ClusterSettings {
             version: VERSION,
             incarnation: "a".into(),
             servers: 3,
@@ -631,13 +636,13 @@ mod tests {
         let (name, keys) = ("c".to_string(), Keys::new("c", "a"));
         let cluster = Cluster { name, etcd, settings: settings.clone(), keys, identity: None };
         let read = |value: &str| {
-            let found = Entry { key: cluster.keys.cluster.clone(), value: value.into(), revision: 1 };
+            let found = KeyValue { key: cluster.keys.cluster.clone(), value: value.into(), revision: 1 };
             cluster.test(Some(&found)).map_err(|error| (error.is::<Replaced>(), error.to_string()))
         };
         assert_eq!(read(&text(&settings)), Ok(()));
         let recovered = Some(Recovered { incarnation: "a".into(), count: 7 });
         let (is_replaced, said) =
-            read(&text(&Settings { incarnation: "b".into(), recovered, ..settings.clone() })).unwrap_err();
+            read(&text(&ClusterSettings { incarnation: "b".into(), recovered, ..settings.clone() })).unwrap_err();
         assert!(
             is_replaced && said.starts_with("cluster c is another one now, of incarnation b: it was recovered."),
             "{said}"
@@ -645,7 +650,7 @@ mod tests {
         // Of a version of which nothing else is known.
         let (is_replaced, said) = read(r#"{"version":9,"incarnation":"b","x":1}"#).unwrap_err();
         assert!(is_replaced && said.contains("it was made anew"), "{said}");
-        let changed = read(&text(&Settings { servers: 2, ..settings })).unwrap_err();
+        let changed = read(&text(&ClusterSettings { servers: 2, ..settings })).unwrap_err();
         assert_eq!(changed, (false, "what etcd says of cluster c was changed".into()));
         assert!(!read("{").unwrap_err().0 && !read("{}").unwrap_err().0);
         let absent = cluster.test(None).unwrap_err();

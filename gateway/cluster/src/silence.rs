@@ -36,7 +36,7 @@ const FRESH_BY: u32 = 3;
 const SILENT_BY: u32 = 5;
 
 /// A read of all beats, with their revisions. What it shows may be as old as when it began.
-pub struct Look {
+pub struct BeatsLook {
     pub beats: Vec<(u32, i64, Beat)>,
     pub began: Duration,
     /// How long whoever looks has waited for etcd lately, this read too.
@@ -71,8 +71,8 @@ pub struct Silence {
 
 impl Silence {
     /// Notes a read of all beats.
-    pub fn look(&mut self, look: Look, roster: &Roster) {
-        let Look { beats, began, slowest } = look;
+    pub fn look(&mut self, look: BeatsLook, roster: &Roster) {
+        let BeatsLook { beats, began, slowest } = look;
         let gap = self.last.map_or(Duration::ZERO, |last| began.saturating_sub(last));
         // The read before may have taken that long.
         let was_in_contact = gap <= BREAK + slowest.min(LONGEST);
@@ -277,7 +277,7 @@ mod tests {
                 self.beat(servers);
                 self.now += HALF;
                 let beats = self.beats.iter().map(|(server, (revision, beat))| (*server, *revision, beat.clone()));
-                let look = Look { beats: beats.collect(), began: self.now, slowest: self.slowest };
+                let look = BeatsLook { beats: beats.collect(), began: self.now, slowest: self.slowest };
                 self.silence.look(look, &self.roster);
             }
         }

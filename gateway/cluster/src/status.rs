@@ -10,7 +10,7 @@ use tokio::time::sleep;
 
 use crate::condition::Condition;
 use crate::decision::View;
-use crate::etcd::{Entry, Operation};
+use crate::etcd::{KeyValue, Operation};
 use crate::memory::Size;
 use crate::records::{
     self, last_number, Beat, Chain, Cluster, Disk, Failing, GatewayPhase, JournalKind, Line, Readiness, Registration,
@@ -26,7 +26,7 @@ const COLUMNS: usize = 15;
 
 /// One server.
 #[derive(Debug, Serialize)]
-struct Server {
+struct ServerStatus {
     number: u32,
     address: Option<String>,
     role: &'static str,
@@ -71,7 +71,7 @@ pub struct Status {
     /// How many lines the master's log has.
     line: u64,
     is_ready: bool,
-    servers: Vec<Server>,
+    servers: Vec<ServerStatus>,
     detected: Vec<u32>,
     /// Why the chain waits, if it does.
     waits: Option<String>,
@@ -80,7 +80,7 @@ pub struct Status {
 }
 
 /// What is read at once.
-struct Look {
+struct StatusLook {
     chain: Chain,
     beats: BTreeMap<u32, (i64, Beat)>,
     registrations: BTreeMap<u32, Registration>,
@@ -98,7 +98,7 @@ pub async fn look(cluster: &Cluster) -> Result<Status> {
     sleep(LOOK / 2).await;
     let last = read_at(cluster, begun, &mut silence).await?;
     let beating = |server: &u32| {
-        let revision = |look: &Look| look.beats.get(server).map(|(revision, _)| *revision);
+        let revision = |look: &StatusLook| look.beats.get(server).map(|(revision, _)| *revision);
         revision(&last).is_some() && revision(&last) != revision(&first)
     };
     let roster = roster(cluster, &last.chain);
@@ -143,7 +143,7 @@ fn why_unserved(view: &View) -> Option<String> {
     Some(format!("the gateway of server {head} {fault}, and {why}"))
 }
 
-fn servers(look: &Look, beats: impl Fn(&u32) -> bool) -> Vec<Server> {
+fn servers(look: &StatusLook, beats: impl Fn(&u32) -> bool) -> Vec<ServerStatus> {
     let chain = &look.chain;
     let count_of = |server: &u32| look.beats.get(server).map_or(0, |(_, beat)| beat.count);
     let most = chain.members.first().map_or(0, count_of);
@@ -151,7 +151,7 @@ fn servers(look: &Look, beats: impl Fn(&u32) -> bool) -> Vec<Server> {
     let all = chain.members.iter().chain(&chain.joiner).copied().chain(wish.map(|(server, _)| *server));
     let server = |number: u32| {
         let beat = look.beats.get(&number).map(|(_, beat)| beat.clone()).unwrap_or_default();
-        Server {
+        ServerStatus {
             number,
             address: look.registrations.get(&number).map(|registration| registration.address.to_string()),
             role: role(chain, number),
@@ -207,20 +207,20 @@ fn roster(cluster: &Cluster, chain: &Chain) -> Roster {
     roster
 }
 
-fn beats_of(look: &Look) -> Vec<(u32, i64, Beat)> {
+fn beats_of(look: &StatusLook) -> Vec<(u32, i64, Beat)> {
     look.beats.iter().map(|(server, (revision, beat))| (*server, *revision, beat.clone())).collect()
 }
 
 /// Reads, and notes who beats.
-async fn read_at(cluster: &Cluster, begun: Instant, silence: &mut Silence) -> Result<Look> {
+async fn read_at(cluster: &Cluster, begun: Instant, silence: &mut Silence) -> Result<StatusLook> {
     let began = begun.elapsed();
     let look = read(cluster).await?;
-    let beats = silence::Look { beats: beats_of(&look), began, slowest: cluster.etcd.slowest() };
+    let beats = silence::BeatsLook { beats: beats_of(&look), began, slowest: cluster.etcd.slowest() };
     silence.look(beats, &roster(cluster, &look.chain));
     Ok(look)
 }
 
-async fn read(cluster: &Cluster) -> Result<Look> {
+async fn read(cluster: &Cluster) -> Result<StatusLook> {
     let keys = &cluster.keys;
     let operations = [
         Operation::Get(keys.chain()),
@@ -229,10 +229,11 @@ async fn read(cluster: &Cluster) -> Result<Look> {
         Operation::all(&keys.all_condemned()),
         Operation::all(&keys.all_detected()),
     ];
-    let [chain, beats, nodes, condemned, detected]: [Vec<Entry>; 5] =
+    let [chain, beats, nodes, condemned, detected]: [Vec<KeyValue>; 5] =
         cluster.read(&operations).await?.try_into().ok().context("etcd answers with too little")?;
-    let numbers = |entries: &[Entry]| entries.iter().filter_map(|entry| last_number(&entry.key)).collect::<Vec<u32>>();
-    let mut look = Look {
+    let numbers =
+        |entries: &[KeyValue]| entries.iter().filter_map(|entry| last_number(&entry.key)).collect::<Vec<u32>>();
+    let mut look = StatusLook {
         chain: records::value(chain.first().context("the cluster has no chain")?)?,
         beats: BTreeMap::new(),
         registrations: BTreeMap::new(),
@@ -258,7 +259,7 @@ pub async fn log(cluster: &Cluster) -> Result<Vec<String>> {
     loop {
         let next = cluster.keys.lines_from(lines.len() as u64 + 1, 500);
         let read = cluster.etcd.transact(&[cluster.guard()], &[next], &[]).await?.read;
-        let found: Vec<Entry> = read.into_iter().flatten().collect();
+        let found: Vec<KeyValue> = read.into_iter().flatten().collect();
         if found.is_empty() {
             return Ok(lines);
         }
@@ -313,7 +314,7 @@ impl Status {
     }
 }
 
-fn row(server: &Server) -> [String; COLUMNS] {
+fn row(server: &ServerStatus) -> [String; COLUMNS] {
     let yes = |is: bool| if is { "yes" } else { "no" }.to_string();
     let hears: Vec<String> = server.hears.iter().map(ToString::to_string).collect();
     [

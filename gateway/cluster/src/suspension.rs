@@ -17,18 +17,18 @@ use crate::lock;
 
 /// A process that wasn't seen to run for longer stood still, in milliseconds. No cluster is recovered in so short a time, by more
 /// than a beat's period.
-pub const STILL: u64 = 1_500;
+pub const STILL_MILLISECONDS: u64 = 1_500;
 
 /// So long looks that fail count for nothing behind that, in milliseconds: what goes on with this process, a network or a member
 /// of etcd, may take a while.
-const PATIENCE: u64 = 2_000;
+const PATIENCE_MILLISECONDS: u64 = 2_000;
 
 /// So often it is noted that this process runs.
 const TICK: Duration = Duration::from_millis(100);
 
 /// What is known of one process. All moments are of the clock since the system's start.
 pub struct Suspension {
-    state: Mutex<State>,
+    state: Mutex<SuspensionState>,
     /// Calls for a look.
     look: Arc<Notify>,
     /// The process may go on.
@@ -36,7 +36,7 @@ pub struct Suspension {
     longest: u64,
 }
 
-struct State {
+struct SuspensionState {
     /// When this process was seen to run last.
     seen: u64,
     /// When it went on behind standing still, if it hasn't looked at etcd since.
@@ -47,7 +47,7 @@ struct State {
 impl Suspension {
     /// Of a process that calls for looks by this.
     pub fn new(look: Arc<Notify>) -> Suspension {
-        Suspension::longer_than(STILL, look)
+        Suspension::longer_than(STILL_MILLISECONDS, look)
     }
 
     /// Of one that never counts as having stood still.
@@ -56,7 +56,7 @@ impl Suspension {
     }
 
     fn longer_than(longest: u64, look: Arc<Notify>) -> Suspension {
-        let state = Mutex::new(State { seen: since_start(), awake: None, is_over: false });
+        let state = Mutex::new(SuspensionState { seen: since_start(), awake: None, is_over: false });
         Suspension { state, look, passes: Notify::new(), longest }
     }
 
@@ -109,7 +109,7 @@ impl Suspension {
     fn looked_at(&self, begun: u64, has_read: bool, now: u64) {
         self.note_at(now);
         let mut state = lock(&self.state);
-        let counts = |awake: u64| begun >= awake && (has_read || now - awake >= PATIENCE);
+        let counts = |awake: u64| begun >= awake && (has_read || now - awake >= PATIENCE_MILLISECONDS);
         if state.awake.is_some_and(counts) {
             state.awake = None;
             drop(state);
@@ -137,8 +137,8 @@ mod tests {
     #[test]
     fn who_stood_still_passes_behind_a_look_that_began_later() {
         let (suspension, start) = tested();
-        assert!(suspension.note_at(start + STILL) && suspension.note_at(start + 2 * STILL));
-        let awake = start + 4 * STILL;
+        assert!(suspension.note_at(start + STILL_MILLISECONDS) && suspension.note_at(start + 2 * STILL_MILLISECONDS));
+        let awake = start + 4 * STILL_MILLISECONDS;
         assert!(!suspension.note_at(awake) && !suspension.note_at(awake + 10));
         // It began before, or while this stood still, and ends now.
         suspension.looked_at(start, true, awake + 20);
@@ -150,7 +150,7 @@ mod tests {
     #[test]
     fn a_look_within_which_it_stood_still_counts_for_nothing() {
         let (suspension, start) = tested();
-        let awake = start + STILL + 1;
+        let awake = start + STILL_MILLISECONDS + 1;
         assert!(!suspension.note_at(awake));
         // Nobody noted anything while it stood still for the second time.
         suspension.looked_at(awake, true, awake + 60_000);
@@ -162,16 +162,16 @@ mod tests {
     #[test]
     fn without_etcd_it_passes_after_a_while() {
         let (suspension, start) = tested();
-        let awake = start + STILL + 1;
+        let awake = start + STILL_MILLISECONDS + 1;
         let mut passed = None;
-        for now in (awake..awake + 2 * PATIENCE).step_by(100) {
+        for now in (awake..awake + 2 * PATIENCE_MILLISECONDS).step_by(100) {
             suspension.note_at(now);
             suspension.looked_at(now.saturating_sub(50).max(awake), false, now);
             if suspension.note_at(now) {
                 passed = passed.or(Some(now - awake));
             }
         }
-        assert_eq!(passed, Some(PATIENCE));
+        assert_eq!(passed, Some(PATIENCE_MILLISECONDS));
     }
 
     #[tokio::test]

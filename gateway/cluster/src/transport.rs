@@ -15,9 +15,9 @@ use hyper::Uri;
 use tokio::io::{AsyncRead, AsyncWrite, AsyncWriteExt, ReadBuf};
 use tokio::net::TcpStream;
 use tokio::time::timeout;
-use tokio_rustls::client::TlsStream;
+use tokio_rustls::TlsStream;
 
-use crate::identity::{Fingerprint, Identity, Peer, Role};
+use crate::identity::{Fingerprint, Identity, PeerCertificate, Role};
 use crate::lock;
 use crate::records::Registration;
 
@@ -39,7 +39,10 @@ pub async fn connect(identity: Option<&Identity>, to: &Registration) -> io::Resu
 }
 
 /// Takes a connection in, and says who made it, where there are certificates.
-pub async fn accept(identity: Option<&Identity>, stream: TcpStream) -> io::Result<(Reading, Writing, Option<Peer>)> {
+pub async fn accept(
+    identity: Option<&Identity>,
+    stream: TcpStream,
+) -> io::Result<(Reading, Writing, Option<PeerCertificate>)> {
     stream.set_nodelay(true)?;
     let Some(identity) = identity else {
         let (reading, writing) = halves_of_tcp(stream);
@@ -147,7 +150,7 @@ impl Service<Uri> for Connector {
             if let Some(said) = said {
                 tell_of(secured.as_ref().err(), &at, &said);
             }
-            Ok(Stream::Tls(Box::new(secured?)))
+            Ok(Stream::Tls(Box::new(secured?.into())))
         })
     }
 }
@@ -162,13 +165,18 @@ fn tell_of(error: Option<&io::Error>, at: &str, said: &Mutex<String>) {
     *said = why;
 }
 
-/// A connection of a client of HTTP.
+/// A connection of HTTP, at either end.
 pub enum Stream {
     Tcp(TcpStream),
+    /// What TLS keeps is large, and connections without it don't pay for it.
     Tls(Box<TlsStream<TcpStream>>),
 }
 
 impl Stream {
+    pub fn is_tls(&self) -> bool {
+        matches!(self, Stream::Tls(_))
+    }
+
     /// The connection ends where the system at the other end has acknowledged nothing of what was written for so long.
     pub fn end_where_unacknowledged(&self, time: Duration) -> io::Result<()> {
         let socket = match self {
@@ -191,21 +199,25 @@ impl Connection for Stream {
     }
 }
 
+/// Has the stream below do something, whichever it is.
+macro_rules! either {
+    ($stream:expr, $it:ident => $does:expr) => {
+        match $stream {
+            Stream::Tcp($it) => $does,
+            Stream::Tls($it) => $does,
+        }
+    };
+}
+
 impl AsyncRead for Stream {
     fn poll_read(self: Pin<&mut Self>, context: &mut Context<'_>, buffer: &mut ReadBuf<'_>) -> Poll<io::Result<()>> {
-        match self.get_mut() {
-            Stream::Tcp(stream) => Pin::new(stream).poll_read(context, buffer),
-            Stream::Tls(stream) => Pin::new(stream).poll_read(context, buffer),
-        }
+        either!(self.get_mut(), it => Pin::new(it).poll_read(context, buffer))
     }
 }
 
 impl AsyncWrite for Stream {
     fn poll_write(self: Pin<&mut Self>, context: &mut Context<'_>, bytes: &[u8]) -> Poll<io::Result<usize>> {
-        match self.get_mut() {
-            Stream::Tcp(stream) => Pin::new(stream).poll_write(context, bytes),
-            Stream::Tls(stream) => Pin::new(stream).poll_write(context, bytes),
-        }
+        either!(self.get_mut(), it => Pin::new(it).poll_write(context, bytes))
     }
 
     fn poll_write_vectored(
@@ -213,30 +225,18 @@ impl AsyncWrite for Stream {
         context: &mut Context<'_>,
         pieces: &[io::IoSlice<'_>],
     ) -> Poll<io::Result<usize>> {
-        match self.get_mut() {
-            Stream::Tcp(stream) => Pin::new(stream).poll_write_vectored(context, pieces),
-            Stream::Tls(stream) => Pin::new(stream).poll_write_vectored(context, pieces),
-        }
+        either!(self.get_mut(), it => Pin::new(it).poll_write_vectored(context, pieces))
     }
 
     fn is_write_vectored(&self) -> bool {
-        match self {
-            Stream::Tcp(stream) => stream.is_write_vectored(),
-            Stream::Tls(stream) => stream.is_write_vectored(),
-        }
+        either!(self, it => it.is_write_vectored())
     }
 
     fn poll_flush(self: Pin<&mut Self>, context: &mut Context<'_>) -> Poll<io::Result<()>> {
-        match self.get_mut() {
-            Stream::Tcp(stream) => Pin::new(stream).poll_flush(context),
-            Stream::Tls(stream) => Pin::new(stream).poll_flush(context),
-        }
+        either!(self.get_mut(), it => Pin::new(it).poll_flush(context))
     }
 
     fn poll_shutdown(self: Pin<&mut Self>, context: &mut Context<'_>) -> Poll<io::Result<()>> {
-        match self.get_mut() {
-            Stream::Tcp(stream) => Pin::new(stream).poll_shutdown(context),
-            Stream::Tls(stream) => Pin::new(stream).poll_shutdown(context),
-        }
+        either!(self.get_mut(), it => Pin::new(it).poll_shutdown(context))
     }
 }

@@ -13,7 +13,7 @@ use tokio::net::TcpStream;
 use tokio::signal::unix::{signal, SignalKind};
 use tokio::time::sleep;
 
-use crate::certificates::{self, Wanted};
+use crate::certificates::{self, CertificateOptions};
 use crate::identity::{Identity, IdentityFiles, Role};
 use crate::memory::usual_bound;
 use crate::records::Cluster;
@@ -35,12 +35,12 @@ const NODES: Duration = Duration::from_secs(30);
 const FRONT: Duration = Duration::from_secs(10);
 
 /// A process of the cluster. It is ended with this one.
-struct Process {
+struct ClusterProcess {
     name: String,
     child: Child,
 }
 
-impl Drop for Process {
+impl Drop for ClusterProcess {
     fn drop(&mut self) {
         // One that has ended already needs no end.
         let _ = self.child.kill();
@@ -49,7 +49,7 @@ impl Drop for Process {
 }
 
 /// What is to go up.
-pub struct Settings {
+pub struct UpSettings {
     pub nodes: u32,
     /// For etcd, for what the processes say, and for certificates.
     pub folder: PathBuf,
@@ -62,8 +62,8 @@ pub struct Settings {
 
 /// Starts etcd, two candidates for the master, so many nodes with gateways, and a front, in a folder, and runs until a signal
 /// comes.
-pub async fn up(settings: &Settings) -> Result<()> {
-    let Settings { nodes, folder, program, gateway_config, .. } = settings;
+pub async fn up(settings: &UpSettings) -> Result<()> {
+    let UpSettings { nodes, folder, program, gateway_config, .. } = settings;
     let mut interrupts = signal(SignalKind::interrupt())?;
     let mut terminations = signal(SignalKind::terminate())?;
     make_folder(folder)?;
@@ -77,7 +77,7 @@ pub async fn up(settings: &Settings) -> Result<()> {
     let this = std::env::current_exe()?;
     let command = |words: &[&str], name: &str| {
         let mut command = Command::new(&this);
-        command.args(words).args(["--cluster", NAME, "--etcd", &url, "--cq", program]).args(shown.words(name));
+        command.args(words).args(["--cluster", NAME, "--etcd", &url]).args(shown.words(name));
         command
     };
     // All nodes share this machine.
@@ -86,7 +86,7 @@ pub async fn up(settings: &Settings) -> Result<()> {
         let (name, first, gateway) = (node(number), number.to_string(), format!("127.0.0.1:{}", free_port()?));
         let words = ["node", "--listen", "127.0.0.1:0", "--first", &first, "--gateway", &gateway];
         let mut node = command(&words, &name);
-        node.args(["--memory", &memory]).arg("--journal").arg(folder.join(JOURNALS));
+        node.args(["--cq", program, "--memory", &memory]).arg("--journal").arg(folder.join(JOURNALS));
         if let Some(config) = gateway_config {
             node.arg("--gateway-config").arg(config);
         }
@@ -94,11 +94,11 @@ pub async fn up(settings: &Settings) -> Result<()> {
     }
     for number in 1..=2 {
         // This etcd compacts itself.
-        let words = ["master", "--no-compaction"];
+        let words = ["master", "--no-compaction", "--cq", program];
         processes.push(begin(command(&words, "master"), folder, &format!("master-{number}"))?);
     }
     let front = free_port()?;
-    let words = ["serve", "--host", "127.0.0.1", "--port", &front.to_string()];
+    let words = ["front", "--host", "127.0.0.1", "--port", &front.to_string()];
     processes.push(begin(command(&words, "front"), folder, "front")?);
     let cluster = Cluster::find(NAME, &urls, identity).await?;
     tell_of(&cluster, *nodes, &url, folder, &shown, &mut processes).await?;
@@ -154,7 +154,7 @@ impl Shown {
 }
 
 /// An authority, and a certificate for each process; for one node more, too.
-fn make_certificates(settings: &Settings) -> Result<Shown> {
+fn make_certificates(settings: &UpSettings) -> Result<Shown> {
     if !settings.certificates {
         return Ok(Shown(None));
     }
@@ -162,7 +162,7 @@ fn make_certificates(settings: &Settings) -> Result<Shown> {
     let wanted = |role: Option<Role>, name: Option<String>| {
         let address = if role == Some(Role::Etcd) { vec!["127.0.0.1".into()] } else { Vec::new() };
         let role = role.into_iter().collect();
-        Wanted { cluster: NAME.into(), folder: folder.clone(), role, name, address, days: None }
+        CertificateOptions { cluster: NAME.into(), folder: folder.clone(), role, name, address, days: None }
     };
     certificates::make(&wanted(None, None))?;
     for role in [Role::Etcd, Role::Master, Role::Front] {
@@ -174,7 +174,7 @@ fn make_certificates(settings: &Settings) -> Result<Shown> {
     Ok(Shown(Some(folder)))
 }
 
-fn goes_on(process: &mut Process) -> bool {
+fn goes_on(process: &mut ClusterProcess) -> bool {
     match process.child.try_wait() {
         Ok(Some(status)) => {
             say(&format!("{} has ended ({status})", process.name));
@@ -202,7 +202,7 @@ fn free_port() -> Result<u16> {
     Ok(TcpListener::bind((Ipv4Addr::LOCALHOST, 0))?.local_addr()?.port())
 }
 
-fn start_etcd(folder: &Path, url: &str, peers: u16, shown: &Shown) -> Result<Process> {
+fn start_etcd(folder: &Path, url: &str, peers: u16, shown: &Shown) -> Result<ClusterProcess> {
     let peer = format!("http://127.0.0.1:{peers}");
     let mut command = Command::new("etcd");
     command.arg("--data-dir").arg(folder.join("etcd")).args([
@@ -227,13 +227,13 @@ fn start_etcd(folder: &Path, url: &str, peers: u16, shown: &Shown) -> Result<Pro
 }
 
 /// Starts a process whose output goes to a file.
-fn begin(mut command: Command, folder: &Path, name: &str) -> Result<Process> {
+fn begin(mut command: Command, folder: &Path, name: &str) -> Result<ClusterProcess> {
     let path: PathBuf = folder.join(format!("{name}.log"));
     let log = File::create(&path).with_context(|| format!("{} can't be written", path.display()))?;
     command.stdin(Stdio::null()).stdout(log.try_clone()?).stderr(log);
     end_with_this_process(&mut command);
     let child = command.spawn().with_context(|| format!("{name} can't be started"))?;
-    Ok(Process { name: name.into(), child })
+    Ok(ClusterProcess { name: name.into(), child })
 }
 
 async fn create(urls: &[String], identity: Option<&Arc<Identity>>, nodes: u32) -> Result<()> {
@@ -253,7 +253,7 @@ async fn tell_of(
     url: &str,
     folder: &Path,
     shown: &Shown,
-    processes: &mut [Process],
+    processes: &mut [ClusterProcess],
 ) -> Result<()> {
     let begun = Instant::now();
     loop {

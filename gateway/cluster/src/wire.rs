@@ -7,7 +7,7 @@ use hobbychair_bytes::parts::{frame, Malformed, Parts, Reader};
 use hobbychair_bytes::values::RequestName;
 
 /// The first frame of a connection isn't longer: a stranger gets no more memory.
-pub const GREETING_LIMIT: usize = 64 << 10;
+pub const GREETING_LIMIT_BYTES: usize = 64 << 10;
 
 /// No batch has more requests.
 pub const MOST_REQUESTS: u32 = 1024;

@@ -16,7 +16,7 @@ use crate::identity::Identity;
 use crate::lock;
 use crate::records::Registration;
 use crate::transport::{self, Reading};
-use crate::wire::{About, Frame, GREETING_LIMIT};
+use crate::wire::{About, Frame, GREETING_LIMIT_BYTES};
 
 /// So often a server is pinged.
 const PING: Duration = Duration::from_millis(300);
@@ -38,10 +38,10 @@ const HEARD: Duration = Duration::from_secs(1);
 
 /// Which gateways' ports a front reaches.
 #[derive(Default)]
-pub struct Reach(Mutex<Known>);
+pub struct Reach(Mutex<ReachState>);
 
 #[derive(Default)]
-struct Known {
+struct ReachState {
     head: Option<u32>,
     reached: BTreeMap<u32, bool>,
     /// When the gateway of a server was heard last by which requests go.
@@ -145,7 +145,7 @@ async fn ping(
     reach: &Reach,
 ) -> io::Result<std::convert::Infallible> {
     let (reading, mut writing) = timeout(QUIET, transport::connect(identity, to)).await??;
-    let mut reading = Frames::new(reading, GREETING_LIMIT);
+    let mut reading = Frames::new(reading, GREETING_LIMIT_BYTES);
     let mut bytes = Frame::Front { about: about.clone() }.bytes();
     let mut pings = interval(PING);
     pings.set_missed_tick_behavior(MissedTickBehavior::Delay);

@@ -18,20 +18,20 @@ use tokio::time::timeout;
 pub const PROTOCOL: &str = "hobbychair-calls-1";
 
 /// A body with more bytes isn't passed on as a call, but as a request of its own.
-pub const LONGEST_BODY: usize = 64 << 10;
+pub const LONGEST_BODY_BYTES: usize = 64 << 10;
 
 /// So many bytes of an answer's body are in one frame.
-pub const PIECE: usize = 64 << 10;
+pub const PIECE_BYTES: usize = 64 << 10;
 
 /// No frame has more bytes: a body, and the longest head twice.
-pub const FRAME_LIMIT: usize = 192 << 10;
+pub const FRAME_LIMIT_BYTES: usize = 192 << 10;
 
 /// No head has more headers.
 const MOST_HEADERS: u32 = 256;
 
-/// Writes all of it. Whoever doesn't take the next [`PIECE`] of it in time is an error.
+/// Writes all of it. Whoever doesn't take the next [`PIECE_BYTES`] of it in time is an error.
 pub async fn write(writing: &mut (impl AsyncWrite + Unpin), bytes: &[u8], patience: Duration) -> io::Result<()> {
-    for piece in bytes.chunks(PIECE) {
+    for piece in bytes.chunks(PIECE_BYTES) {
         timeout(patience, writing.write_all(piece)).await??;
     }
     timeout(patience, writing.flush()).await?

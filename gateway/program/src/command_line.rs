@@ -1,11 +1,14 @@
 //! The command `hobbychair`.
 
+use std::ffi::OsString;
+use std::future::Future;
 use std::io::{self, Write};
 use std::os::unix::fs::PermissionsExt;
 use std::path::{Path, PathBuf};
 
 use anyhow::{anyhow, Context, Result};
-use clap::{Args, CommandFactory, Parser, Subcommand};
+use clap::error::{ContextKind, ContextValue, ErrorKind};
+use clap::{ArgMatches, Args, CommandFactory, FromArgMatches, Parser, Subcommand};
 use clap_complete::Shell;
 use hobbychair_bytes::characters::escaped;
 use hobbychair_cluster::command_line as cluster;
@@ -14,13 +17,21 @@ use hobbychair_tools::misuse::Misuse;
 use hobbychair_tools::shell::{self, Shell as ChainShell};
 use hobbychair_tools::{answers, history, inspect};
 
-use crate::config::{LogFormat, LogLevel, LogSettings, Options};
-use crate::front;
+use crate::config::{GatewayOptions, LogFormat, LogLevel, LogSettings};
+use crate::front::{self, FrontOptions};
 use crate::log;
+use crate::options_file::{option_of, OptionsFile};
 use crate::serve::{self, serve};
 
 /// The variable that names the program cq.
 const PROGRAM: &str = "HOBBYCHAIR_CQ";
+
+/// The variable that names the cluster of a front.
+const CLUSTER: &str = "HOBBYCHAIR_CLUSTER";
+
+/// The commands that serve clients. Their options may come from a file.
+const SERVE: &str = "serve";
+const FRONT: &str = "front";
 
 /// The protocol of Amazon SQS in front of cq, which keeps the queues.
 #[derive(Parser)]
@@ -33,8 +44,14 @@ struct CommandLine {
 #[derive(Subcommand)]
 enum Command {
     /// Serve clients of SQS
-    #[command(override_usage = "hobbychair serve [OPTIONS]")]
-    Serve(Box<Options>),
+    #[command(
+        override_usage = "hobbychair serve [OPTIONS]",
+        after_help = "The file of --config may have [[queue]] entries, too: queues to create at the start."
+    )]
+    Serve(Box<GatewayOptions>),
+    /// Pass the requests of clients on to the gateway of a cluster that acts
+    #[command(override_usage = "hobbychair front --cluster <NAME> --etcd <URL,..> [OPTIONS]")]
+    Front(Box<FrontOptions>),
     /// Write the store that a journal has, in chunks
     Dump {
         /// Write instead what the store was asked and answered, as a history for check
@@ -62,12 +79,12 @@ enum Command {
     /// Try a chain with words: queues, crashes, joins, message by message
     Shell(ChainShell),
     /// Run a server of a chain on several machines
-    Node(Box<cluster::Node>),
+    Node(Box<cluster::NodeOptions>),
     /// Run a candidate for the master of such a chain
-    Master(cluster::Master),
+    Master(cluster::MasterOptions),
     /// Make, look at or try a chain on several machines
     #[command(subcommand)]
-    Cluster(cluster::OfCluster),
+    Cluster(cluster::ClusterCommand),
     /// Write the completions of this command line for a shell
     Completions {
         /// The shell
@@ -88,13 +105,15 @@ struct Journal {
 /// told is at fault.
 pub fn main() -> i32 {
     forget_empty_variables();
-    let command_line = CommandLine::parse();
-    match run(command_line.command) {
+    match read(std::env::args_os().collect()).and_then(|command_line| run(command_line.command)) {
         Ok(()) => {
             log::end(None);
             0
         }
         Err(error) => {
+            if let Some(error) = error.downcast_ref::<clap::Error>() {
+                error.exit();
+            }
             let is_broken_pipe = error.downcast_ref::<io::Error>().map(io::Error::kind);
             let said = escaped(&format!("hobbychair: {error:#}"));
             log::end((is_broken_pipe != Some(io::ErrorKind::BrokenPipe)).then_some(&said));
@@ -114,10 +133,83 @@ fn forget_empty_variables() {
     empty.for_each(|(name, _)| std::env::remove_var(name));
 }
 
+/// What the words of this process say, and behind them those of the file that they or a variable name.
+fn read(mut words: Vec<OsString>) -> Result<CommandLine> {
+    let given = matches(&words)?;
+    let mut queues = Vec::new();
+    if let Some((command, given)) = given.subcommand().filter(|(command, _)| [SERVE, FRONT].contains(command)) {
+        // The file may be a pipe that nobody writes to.
+        serve::ignore_hangups();
+        if let Some(path) = given.get_one::<PathBuf>("config") {
+            let file = read_file(path, command)?;
+            // They stand behind the command's name.
+            words.splice(2..2, file.words(given).map(OsString::from));
+            queues = file.queues;
+        }
+    }
+    let mut command_line = CommandLine::from_arg_matches(&matches(&words)?)?;
+    if let Command::Serve(options) = &mut command_line.command {
+        options.queues = queues;
+    }
+    Ok(command_line)
+}
+
+fn matches(words: &[OsString]) -> Result<ArgMatches> {
+    CommandLine::command().try_get_matches_from(words).map_err(|error| explained(error, words))
+}
+
+fn read_file(path: &Path, command: &str) -> Result<OptionsFile> {
+    let commands = CommandLine::command();
+    let own = commands.find_subcommand(command).context("there is no such command")?;
+    let unknown =
+        |name: &str| of_the_other(command, name).unwrap_or_else(|| format!("{name} is no option of {command}"));
+    let file = OptionsFile::read(path, own, unknown)?;
+    if command == FRONT && !file.queues.is_empty() {
+        return Err(Misuse(format!("{}: [[queue]] {NOT_OF_FRONT}", path.display())).into());
+    }
+    Ok(file)
+}
+
+const NOT_OF_FRONT: &str =
+    "is nothing that a front is told: it is for `hobbychair serve`, and for the gateways beside \
+                            nodes (--gateway-config)";
+const NOT_OF_GATEWAY: &str =
+    "is nothing that a gateway is told: it is for a front of a cluster. Use `hobbychair front`";
+
+/// What is said of an option that only the other one of the two commands has.
+fn of_the_other(command: &str, option: &str) -> Option<String> {
+    let (other, why) = match command {
+        SERVE => (FRONT, NOT_OF_GATEWAY),
+        FRONT => (SERVE, NOT_OF_FRONT),
+        _ => return None,
+    };
+    let commands = CommandLine::command();
+    option_of(commands.find_subcommand(other)?, option.trim_start_matches("--"))?;
+    Some(format!("{option} {why}"))
+}
+
+/// The error, or what is to be said instead.
+fn explained(error: clap::Error, words: &[OsString]) -> anyhow::Error {
+    let option = error.context().find_map(|(kind, value)| match (kind, value) {
+        (ContextKind::InvalidArg, ContextValue::String(option)) => Some(option),
+        _ => None,
+    });
+    let command = words.get(1).and_then(|word| word.to_str());
+    let said = match (error.kind(), command, option) {
+        (ErrorKind::UnknownArgument, Some(command), Some(option)) => of_the_other(command, option),
+        _ => None,
+    };
+    said.map_or_else(|| error.into(), |said| Misuse(said).into())
+}
+
 fn run(command: Command) -> Result<()> {
     let mut out = io::BufWriter::new(io::stdout());
     match command {
         Command::Serve(options) => serve_by(*options)?,
+        Command::Front(options) => {
+            begin_log(options.common.log())?;
+            serve_on(options.common.threads()?, front::serve(options.settings()?))?;
+        }
         Command::Dump { answers: true, journal: Journal { file, cq } } => {
             answers::dump(&program(cq)?, &file, &mut out)?
         }
@@ -160,16 +252,19 @@ fn run(command: Command) -> Result<()> {
     Ok(out.flush()?)
 }
 
-fn serve_by(options: Options) -> Result<()> {
-    serve::ignore_hangups();
-    let options = options.with_file()?;
-    begin_log(options.log())?;
-    let threads = options.threads()?;
+fn serve_by(options: GatewayOptions) -> Result<()> {
+    // One that is told so wanted a front, and no store of its own.
+    if !options.beside_node && std::env::var_os(CLUSTER).is_some() {
+        return Err(Misuse(format!("{CLUSTER} {NOT_OF_GATEWAY}")).into());
+    }
+    begin_log(options.common.log())?;
+    serve_on(options.common.threads()?, serve(options.settings(program)?))
+}
+
+/// Serves on so many threads until that ends.
+fn serve_on(threads: usize, serving: impl Future<Output = Result<()>>) -> Result<()> {
     let runtime = tokio::runtime::Builder::new_multi_thread().worker_threads(threads).enable_all().build()?;
-    let served = match options.front()? {
-        Some(settings) => runtime.block_on(front::serve(settings)),
-        None => runtime.block_on(serve(options.settings(program)?)),
-    };
+    let served = runtime.block_on(serving);
     // What still waits for a client or a disk is of no use any more.
     runtime.shutdown_background();
     served

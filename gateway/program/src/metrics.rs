@@ -56,7 +56,8 @@ pub struct Counts {
 pub struct Counted(IntGauge);
 
 impl Counted {
-    fn one_more(gauge: &IntGauge) -> Counted {
+    /// Counts one more by this.
+    pub fn one_more(gauge: &IntGauge) -> Counted {
         gauge.inc();
         Counted(gauge.clone())
     }
@@ -153,8 +154,9 @@ impl Metrics {
         }
     }
 
-    pub fn connection(&self) -> Counted {
-        Counted::one_more(&self.connections)
+    /// Counts the connections that are open.
+    pub fn connections(&self) -> IntGauge {
+        self.connections.clone()
     }
 
     /// Notes whether the programs told how many messages there are.

@@ -11,13 +11,13 @@ use crate::redrive::{RedriveAllowPolicy, RedrivePolicy, REDRIVE_ALLOW_POLICY, RE
 use crate::texts::QueueKind;
 
 /// The largest `MaximumMessageSize`, which is its default as well, in bytes. A batch has at most as many in all.
-pub const LONGEST_MESSAGE: usize = 1_048_576;
+pub const LONGEST_MESSAGE_BYTES: usize = 1_048_576;
 
 /// The longest text of a policy, in bytes (API Reference, SetQueueAttributes, `Policy`).
-const LONGEST_POLICY: usize = 8_192;
+const LONGEST_POLICY_BYTES: usize = 8_192;
 
 /// The longest name of a key (API Reference of KMS, `KeyId`).
-const LONGEST_KEY: usize = 2_048;
+const LONGEST_KEY_BYTES: usize = 2_048;
 
 /// The counts of messages, which are the store's.
 pub const COUNTS: [&str; 3] =
@@ -73,7 +73,7 @@ static ATTRIBUTES: [Attribute; 15] = [
     of_fifo("FifoThroughputLimit", Rule::OneOf(&["perQueue", "perMessageGroupId"]), "perQueue"),
     attribute("KmsDataKeyReusePeriodSeconds", Rule::Whole(60, 86_400), None),
     attribute(KEY, Rule::Key, None),
-    attribute("MaximumMessageSize", Rule::Whole(1_024, LONGEST_MESSAGE as u64), Some("1048576")),
+    attribute("MaximumMessageSize", Rule::Whole(1_024, LONGEST_MESSAGE_BYTES as u64), Some("1048576")),
     attribute("MessageRetentionPeriod", Rule::Whole(60, 1_209_600), Some("345600")),
     attribute("Policy", Rule::Policy(test_policy), None),
     attribute("ReceiveMessageWaitTimeSeconds", Rule::Whole(0, 20), Some("0")),
@@ -95,8 +95,10 @@ impl Attribute {
             Rule::Whole(least, most) => {
                 whole(value).filter(|number| (least..=most).contains(number)).map(|number| number.to_string())
             }
-            Rule::Key => Some(value.to_string()).filter(|key| key.len() <= LONGEST_KEY && key.bytes().all(is_of_key)),
-            Rule::Policy(_) if value.len() > LONGEST_POLICY || !is_of_xml(value) => None,
+            Rule::Key => {
+                Some(value.to_string()).filter(|key| key.len() <= LONGEST_KEY_BYTES && key.bytes().all(is_of_key))
+            }
+            Rule::Policy(_) if value.len() > LONGEST_POLICY_BYTES || !is_of_xml(value) => None,
             Rule::Policy(read) => {
                 if !value.is_empty() {
                     read(value)?;
@@ -440,8 +442,8 @@ mod tests {
             ("Policy", "{}"),
             ("DelaySeconds", "901"),
             ("KmsMasterKeyId", "a\u{1}"),
-            ("KmsMasterKeyId", &"k".repeat(LONGEST_KEY + 1)),
-            ("Policy", &format!("{{\"Statement\":{{}}{}}}", " ".repeat(LONGEST_POLICY))),
+            ("KmsMasterKeyId", &"k".repeat(LONGEST_KEY_BYTES + 1)),
+            ("Policy", &format!("{{\"Statement\":{{}}{}}}", " ".repeat(LONGEST_POLICY_BYTES))),
             ("Policy", "{\"Id\":\"\u{fffe}\",\"Statement\":{}}"),
         ] {
             assert!(matches!(given(&[(name, value)]), Err(SqsError::InvalidAttributeValue { .. })), "{name}");

@@ -5,7 +5,7 @@ use std::sync::Arc;
 
 use hobbychair_bytes::characters::is_xml_character;
 use hobbychair_bytes::moment::Moment;
-use hobbychair_bytes::values::STORE_LIMIT;
+use hobbychair_bytes::values::STORE_LIMIT_BYTES;
 use md5::{Digest, Md5};
 use serde::{Deserialize, Serialize, Serializer};
 use uuid::Uuid;
@@ -282,7 +282,7 @@ impl Envelope {
 
     /// Whether the store takes no text so long.
     pub fn is_too_long(&self) -> bool {
-        self.0.len() > STORE_LIMIT
+        self.0.len() > STORE_LIMIT_BYTES
     }
 
     /// How many bytes it has.
@@ -423,8 +423,8 @@ pub fn has_parts(envelope: &str) -> bool {
 /// The parts of a text, none of them longer than the store takes.
 pub fn parts_of(text: &str) -> Vec<&str> {
     let (mut parts, mut rest) = (Vec::new(), text);
-    while rest.len() > STORE_LIMIT {
-        let end = (0..=STORE_LIMIT).rev().find(|end| rest.is_char_boundary(*end)).unwrap_or(0);
+    while rest.len() > STORE_LIMIT_BYTES {
+        let end = (0..=STORE_LIMIT_BYTES).rev().find(|end| rest.is_char_boundary(*end)).unwrap_or(0);
         let (part, behind) = rest.split_at(end);
         parts.push(part);
         rest = behind;
@@ -435,11 +435,11 @@ pub fn parts_of(text: &str) -> Vec<&str> {
 
 /// The id that stands in an envelope, whole or not, if one does: then it stands first. Takes the same time for each.
 pub fn own_id(envelope: &str) -> Option<Uuid> {
-    const LENGTH: usize = uuid::fmt::Hyphenated::LENGTH;
+    const ID_CHARACTERS: usize = uuid::fmt::Hyphenated::LENGTH;
     if let Some(head) = EnvelopeHead::of_parts(envelope) {
         return head.id;
     }
-    envelope.strip_prefix("{\"id\":\"")?.get(..LENGTH)?.parse().ok()
+    envelope.strip_prefix("{\"id\":\"")?.get(..ID_CHARACTERS)?.parse().ok()
 }
 
 /// The MessageId of the message with this sequence number in the queue of this mark, where none stands in its envelope.
@@ -598,12 +598,12 @@ mod tests {
     #[test]
     fn an_envelope_above_the_stores_limit_is_too_long() {
         let of = |length: usize| Envelope::from("x".repeat(length));
-        assert!(!of(STORE_LIMIT).is_too_long() && of(STORE_LIMIT + 1).is_too_long());
+        assert!(!of(STORE_LIMIT_BYTES).is_too_long() && of(STORE_LIMIT_BYTES + 1).is_too_long());
     }
 
     #[test]
     fn a_line_stands_for_an_envelope_in_parts_and_says_what_a_move_changes() {
-        let body = Body::parse(&"ü\n".repeat(STORE_LIMIT)).unwrap();
+        let body = Body::parse(&"ü\n".repeat(STORE_LIMIT_BYTES)).unwrap();
         let own = Metadata { id: Some(Uuid::from_u128(7)), ..metadata() };
         let whole = Envelope::new(&own, &body).unwrap().into_text();
         let head = EnvelopeHead::of(&whole).unwrap();
@@ -627,14 +627,18 @@ mod tests {
 
     #[test]
     fn parts_are_no_longer_than_the_store_takes_and_break_no_character() {
-        for (unit, count) in
-            [("x", STORE_LIMIT), ("x", STORE_LIMIT + 1), ("ü", STORE_LIMIT), ("aü", STORE_LIMIT), ("😀", 300_000)]
-        {
+        for (unit, count) in [
+            ("x", STORE_LIMIT_BYTES),
+            ("x", STORE_LIMIT_BYTES + 1),
+            ("ü", STORE_LIMIT_BYTES),
+            ("aü", STORE_LIMIT_BYTES),
+            ("😀", 300_000),
+        ] {
             let text = unit.repeat(count);
             let parts = parts_of(&text);
             assert_eq!(parts.concat(), text);
-            assert!(parts.iter().all(|part| (1..=STORE_LIMIT).contains(&part.len())));
-            assert!(parts.len() <= 1 + text.len() / (STORE_LIMIT - 3));
+            assert!(parts.iter().all(|part| (1..=STORE_LIMIT_BYTES).contains(&part.len())));
+            assert!(parts.len() <= 1 + text.len() / (STORE_LIMIT_BYTES - 3));
         }
     }
 

@@ -116,7 +116,7 @@ pub enum Stale {
 }
 
 /// The most characters of a refusal.
-const MOST_TOLD: usize = 1_024;
+const MOST_TOLD_CHARACTERS: usize = 1_024;
 
 /// How both protocols name an error.
 #[derive(Clone, Copy, Debug, PartialEq, Eq)]
@@ -227,7 +227,7 @@ impl SqsError {
     /// The text as clients are told it: what they sent may stand in it, and a refusal isn't as long as what it refuses.
     pub fn client_message(&self) -> String {
         let mut text = self.to_string();
-        if let Some((end, _)) = text.char_indices().nth(MOST_TOLD) {
+        if let Some((end, _)) = text.char_indices().nth(MOST_TOLD_CHARACTERS) {
             text.truncate(end);
             text.push('…');
         }

@@ -53,9 +53,9 @@ impl HandleKey {
 
 /// A handle has so many numbers and a check, which is as long as one.
 const NUMBERS: usize = 4;
-const CHECKED: usize = 8 * NUMBERS;
-const BYTES: usize = CHECKED + 8;
-const LENGTH: usize = (8 * BYTES).div_ceil(6);
+const CHECKED_BYTES: usize = 8 * NUMBERS;
+const BYTES: usize = CHECKED_BYTES + 8;
+const LENGTH_CHARACTERS: usize = (8 * BYTES).div_ceil(6);
 
 impl Handle {
     /// The handle of a handing, of the queue of this mark, at this moment.
@@ -78,8 +78,8 @@ impl Handle {
         for (place, number) in numbers.iter().enumerate() {
             bytes[8 * place..8 * place + 8].copy_from_slice(&number.to_be_bytes());
         }
-        let check = key.check(&bytes[..CHECKED]);
-        bytes[CHECKED..].copy_from_slice(&check);
+        let check = key.check(&bytes[..CHECKED_BYTES]);
+        bytes[CHECKED_BYTES..].copy_from_slice(&check);
         base64::encode_config(bytes, base64::URL_SAFE_NO_PAD)
     }
 
@@ -88,9 +88,9 @@ impl Handle {
         let invalid = SqsError::ReceiptHandleIsInvalid;
         let mut bytes = [0; BYTES];
         // One text alone of this length stands for as many bytes.
-        let is_read =
-            text.len() == LENGTH && base64::decode_config_slice(text, base64::URL_SAFE_NO_PAD, &mut bytes) == Ok(BYTES);
-        if !is_read || key.check(&bytes[..CHECKED]) != bytes[CHECKED..] {
+        let is_read = text.len() == LENGTH_CHARACTERS
+            && base64::decode_config_slice(text, base64::URL_SAFE_NO_PAD, &mut bytes) == Ok(BYTES);
+        if !is_read || key.check(&bytes[..CHECKED_BYTES]) != bytes[CHECKED_BYTES..] {
             return Err(invalid);
         }
         let number = |place: usize| {
@@ -137,7 +137,7 @@ mod tests {
     fn handles_come_back_and_spoilt_ones_do_not() {
         let handle = Handle::new(Mark(u64::MAX - 5), RECEIPT, 1_700_000_000_000);
         let text = handle.outward(&KEY);
-        assert_eq!((Handle::read(&text, &KEY), text.len()), (Ok(handle), LENGTH));
+        assert_eq!((Handle::read(&text, &KEY), text.len()), (Ok(handle), LENGTH_CHARACTERS));
         assert_eq!(handle.receipt(RECEIPT.incarnation), RECEIPT);
         let spoilt = [
             String::new(),
@@ -166,14 +166,16 @@ mod tests {
         let (given, wanted) = (handle.outward(&KEY), next.outward(&KEY));
         let bytes = |text: &str| base64::decode_config(text, base64::URL_SAFE_NO_PAD).unwrap();
         let forged = |check: &[u8]| {
-            let forged = [&bytes(&wanted)[..CHECKED], check].concat();
+            let forged = [&bytes(&wanted)[..CHECKED_BYTES], check].concat();
             Handle::read(&base64::encode_config(forged, base64::URL_SAFE_NO_PAD), &KEY)
         };
-        assert_eq!(forged(&bytes(&wanted)[CHECKED..]), Ok(next));
+        assert_eq!(forged(&bytes(&wanted)[CHECKED_BYTES..]), Ok(next));
         // Neither the check of another handle, nor one that needs no key, nor that of another key.
-        let sum = crc32fast::hash(&bytes(&wanted)[..CHECKED]).to_be_bytes();
+        let sum = crc32fast::hash(&bytes(&wanted)[..CHECKED_BYTES]).to_be_bytes();
         let other = bytes(&next.outward(&HandleKey([8; 16])));
-        for check in [&bytes(&given)[CHECKED..], &sum, &[&sum[..], &sum].concat(), &[0; 8], &other[CHECKED..]] {
+        for check in
+            [&bytes(&given)[CHECKED_BYTES..], &sum, &[&sum[..], &sum].concat(), &[0; 8], &other[CHECKED_BYTES..]]
+        {
             assert_eq!(forged(check), Err(SqsError::ReceiptHandleIsInvalid));
         }
     }

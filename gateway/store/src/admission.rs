@@ -13,10 +13,10 @@ use hobbychair_tables::queue::Queue;
 use hobbychair_tables::queues::Queues;
 
 /// A queue that takes no more without its messages gets attributes and tags also where the bound is full.
-const ORDINARY: u64 = QUEUE_BYTES + 4_096;
+const ORDINARY_BYTES: u64 = QUEUE_BYTES + 4_096;
 
 /// Where the bound is full, ages are looked at again after so many milliseconds.
-const LOOK_AGAIN: u64 = 1000;
+const LOOK_AGAIN_MILLISECONDS: u64 = 1000;
 
 /// The bound of memory, and what is to be counted beside the tables.
 pub struct Admission {
@@ -79,7 +79,7 @@ impl Admission {
         // Whoever looks at ages locks the queue's state, so nobody holds it meanwhile.
         let (more, whole) = queue.state().growth(entry);
         // A queue of ordinary size stays what operators can change, so that memory comes free by other attributes.
-        if more == 0 || whole <= ORDINARY {
+        if more == 0 || whole <= ORDINARY_BYTES {
             return Ok(0);
         }
         self.admit_bytes(more, now)
@@ -117,7 +117,7 @@ impl Admission {
     /// Takes out of the count what has become too old, at most once a second.
     pub fn look_at_ages(&self, now: Moment) {
         let looked = self.looked.load(Ordering::Relaxed);
-        let is_due = now >= looked.saturating_add(LOOK_AGAIN);
+        let is_due = now >= looked.saturating_add(LOOK_AGAIN_MILLISECONDS);
         if is_due && self.looked.compare_exchange(looked, now, Ordering::Relaxed, Ordering::Relaxed).is_ok() {
             self.queues.look_at_ages(now);
         }
@@ -150,7 +150,7 @@ mod tests {
         std::thread::spawn(move || {
             let admitted = [9_000, 11_000].map(|length| {
                 let entry = Entry::Queue(QueueEntry { tags: tags(length), ..entry.clone() });
-                admission.admit_entry(&queue, &entry, LOOK_AGAIN).is_ok()
+                admission.admit_entry(&queue, &entry, LOOK_AGAIN_MILLISECONDS).is_ok()
             });
             sender.send(admitted)
         });

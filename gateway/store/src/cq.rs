@@ -9,6 +9,7 @@ use std::path::{Path, PathBuf};
 use std::process::Stdio;
 use std::time::Duration;
 
+use bytes::BytesMut;
 use hobbychair_bytes::processes::end_with_this_process;
 use thiserror::Error;
 use tokio::io::AsyncReadExt;
@@ -120,7 +121,7 @@ impl KeptFile {
 /// Whether a file has nothing but zeros. It takes time in proportion to those with which it begins.
 pub fn is_blank(path: &Path) -> io::Result<bool> {
     let file = OpenOptions::new().read(true).custom_flags(libc::O_NONBLOCK).open(path)?;
-    let mut reader = BufReader::with_capacity(PIECE, file);
+    let mut reader = BufReader::with_capacity(PIECE_BYTES, file);
     loop {
         let piece = reader.fill_buf()?;
         if piece.is_empty() {
@@ -139,10 +140,13 @@ const VERSION: &str = env!("CARGO_PKG_VERSION");
 const LAST_MOMENTS: Duration = Duration::from_secs(1);
 
 /// No more is read of what it says of its end.
-const LONGEST_WORDS: u64 = 4096;
+const LONGEST_WORDS_BYTES: u64 = 4096;
 
 /// A file is read in pieces of so many bytes.
-const PIECE: usize = 64 << 10;
+const PIECE_BYTES: usize = 64 << 10;
+
+/// No more is read at once of what is told.
+const READ_BYTES: usize = 256 << 10;
 
 const VERSION_TIME: Duration = Duration::from_secs(10);
 
@@ -191,15 +195,21 @@ impl Cq {
         Cq { process: None, input: Input::of_node(input), output: Output::of_node(output), errors: None, file: None }
     }
 
-    /// Starts so many servers without files, each of which has `patience` for an answer.
-    pub fn start_all(program: &str, count: u32, patience: Duration) -> Result<Vec<Cq>, CqError> {
-        (0..count).map(|_| Ok(Cq::start_server(program, None)?.with_patience(patience))).collect()
-    }
-
     /// From now on what is awaited of it comes within this time, or it counts as gone.
     pub fn with_patience(mut self, patience: Duration) -> Cq {
         self.output.patience = patience;
         self
+    }
+
+    /// Reads more of what it tells, behind what the buffer has.
+    pub async fn read(&mut self, buffer: &mut BytesMut) -> Result<(), CqError> {
+        buffer.reserve(READ_BYTES);
+        match self.output.read_buf(buffer).await {
+            Ok(0) => Err(self.end().await),
+            Ok(_) => Ok(()),
+            Err(_) if self.process.is_none() => Err(CqError::NodeGone),
+            Err(error) => Err(CqError::Gone(error.to_string())),
+        }
     }
 
     /// Waits for the end of a program that has closed its output, and says how it ended. One that goes on is ended.
@@ -218,7 +228,7 @@ impl Cq {
     /// What a program that has ended said of that, where it wasn't said in the log.
     async fn last_words(&mut self) -> String {
         let Some(errors) = self.errors.take() else { return String::new() };
-        let (mut said, mut errors) = (Vec::new(), errors.take(LONGEST_WORDS));
+        let (mut said, mut errors) = (Vec::new(), errors.take(LONGEST_WORDS_BYTES));
         let read = tokio::time::timeout(LAST_MOMENTS, errors.read_to_end(&mut said)).await;
         let said = String::from_utf8_lossy(&said);
         match (read, said.trim()) {

@@ -4,7 +4,7 @@ use std::os::unix::fs::MetadataExt;
 use std::path::Path;
 
 /// A file's space is counted in such blocks (stat(2)).
-const BLOCK: u64 = 512;
+const BLOCK_BYTES: u64 = 512;
 
 /// What is to be said behind the words of a program that a call on this file failed, which is to have space for so many bytes: that
 /// its disk has too little. Nothing, where it has enough, or the words are of something else.
@@ -27,7 +27,7 @@ fn lack(file: &Path, length: u64) -> Option<u64> {
 
 /// How many bytes of a disk a file takes.
 pub fn taken(file: &Path) -> u64 {
-    std::fs::metadata(file).map_or(0, |there| there.blocks() * BLOCK)
+    std::fs::metadata(file).map_or(0, |there| there.blocks() * BLOCK_BYTES)
 }
 
 #[cfg(test)]

@@ -358,7 +358,7 @@ fn remove(path: &Path) -> io::Result<()> {
 }
 
 /// A disk counts the space of files in blocks of so many bytes.
-const BLOCK: u64 = 512;
+const BLOCK_BYTES: u64 = 512;
 
 /// Has a file have all of its space from now on, if the disk has so much. One that is made of another, as a copy is, takes it as it
 /// needs it otherwise. One that has it already stays as it is.
@@ -366,7 +366,7 @@ pub fn take_space(path: &Path) -> io::Result<()> {
     let file = open_file(path, OpenOptions::new().write(true))?;
     let found = about(path, file.metadata())?;
     let length = found.len();
-    let lacking = length.saturating_sub(BLOCK * found.blocks());
+    let lacking = length.saturating_sub(BLOCK_BYTES * found.blocks());
     if lacking == 0 {
         return Ok(());
     }

@@ -27,7 +27,7 @@ const LOOK: Duration = Duration::from_millis(100);
 const PATIENCE: Duration = Duration::from_secs(30);
 
 /// No more is read at such a look.
-const PIECE: usize = 64 * 1024;
+const PIECE_BYTES: usize = 64 * 1024;
 
 /// Tells when to look.
 #[derive(Default)]
@@ -207,7 +207,7 @@ impl AsyncRead for Output {
             return Poll::Pending;
         }
         self.note_writes();
-        let mut piece = vec![0; PIECE.min(buffer.remaining())];
+        let mut piece = vec![0; PIECE_BYTES.min(buffer.remaining())];
         match rustix::io::read(borrowed(self.pipe.raw()), &mut piece) {
             Ok(count) => {
                 self.silent_since = None;

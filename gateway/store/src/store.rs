@@ -21,9 +21,9 @@ use tokio::sync::{mpsc, oneshot};
 use tokio::task::JoinHandle;
 use uuid::Uuid;
 
-use crate::admission::Admission;
-use crate::figures::{Counters, Figures};
+use crate::figures::Figures;
 use crate::jobs::{Answer, AnswerSender, Answers, Copy, Job, Operation};
+use crate::shared::Shared;
 
 tokio::task_local! {
     /// Up to which moment who asks wants its answer, where that is known.
@@ -54,25 +54,22 @@ pub struct Store {
     /// One for each shard.
     pub(crate) jobs: Arc<[mpsc::UnboundedSender<Job>]>,
     pub(crate) shards: Shards,
-    pub(crate) queues: Arc<Queues>,
-    pub(crate) clock: Arc<Clock>,
+    pub(crate) shared: Shared,
     /// The programs keep their entries themselves.
     pub(crate) is_kept: bool,
     /// A chain of servers keeps the store, and a node carries what is asked.
     pub(crate) is_of_chain: bool,
-    pub(crate) admission: Arc<Admission>,
-    pub(crate) counters: Arc<Counters>,
 }
 
 impl Store {
     /// The tables of all queues.
     pub fn queues(&self) -> &Queues {
-        &self.queues
+        &self.shared.queues
     }
 
     /// The clock by which they are.
     pub fn clock(&self) -> &Clock {
-        &self.clock
+        &self.shared.clock
     }
 
     /// Whether the programs keep their entries themselves. Then all that is to outlive the gateway stands in their stores.
@@ -92,12 +89,12 @@ impl Store {
 
     /// Whether the bound of memory is full.
     pub fn is_memory_full(&self) -> bool {
-        self.admission.memory.is_full(self.admission.bytes_in_use())
+        self.shared.admission.memory.is_full(self.shared.admission.bytes_in_use())
     }
 
     /// Refuses to send so many bytes where that would be refused in the end.
     pub fn test_room_to_send(&self, bytes: u64) -> Result<(), SqsError> {
-        self.admission.test(bytes, self.clock.now())
+        self.shared.admission.test(bytes, self.shared.clock.now())
     }
 
     /// The place of the program that has the queue of this name.
@@ -112,18 +109,18 @@ impl Store {
 
     /// A name of the store for a queue of this name.
     pub fn next_store_name(&self, name: &QueueName) -> StoreName {
-        self.queues.next_store_name(self.shards, self.place_of(name), self.clock.now())
+        self.shared.queues.next_store_name(self.shards, self.place_of(name), self.shared.clock.now())
     }
 
     /// A name of the store for a book of the program at this place.
     pub fn next_book(&self, place: usize) -> StoreName {
-        StoreName::of_book(self.queues.next_book(self.shards, place, self.clock.now()))
+        StoreName::of_book(self.shared.queues.next_book(self.shards, place, self.shared.clock.now()))
     }
 
     /// A number for the parts of a message of this queue.
     pub fn next_parts(&self, queue: &Queue) -> u64 {
-        let now = self.is_kept.then(|| self.clock.now());
-        self.queues.parts().next_number(self.shards, self.shards.place_of(&queue.name), now)
+        let now = self.is_kept.then(|| self.shared.clock.now());
+        self.shared.queues.parts().next_number(self.shards, self.shards.place_of(&queue.name), now)
     }
 
     /// The answers to asks of the queue that has the parts of this number.
@@ -131,7 +128,7 @@ impl Store {
     /// They are asked when this is called, whenever their answers are waited for.
     pub fn ask_parts(&self, number: u64, asks: Vec<PartsAsk>) -> impl Future<Output = Vec<Answer>> + Send {
         let operations = asks.into_iter().map(|ask| Operation::Ask(Ask::Parts { number, ask })).collect();
-        self.begin(self.shards.place_of_number(number), self.queues.nameless(), operations)
+        self.begin(self.shards.place_of_number(number), self.shared.queues.nameless(), operations)
     }
 
     /// Hands operations to the program at this place at once, whenever their answers are waited for.
@@ -151,7 +148,10 @@ impl Store {
 
     /// The answers of the program at this place to operations that are about no queue with a name.
     pub async fn perform_nameless(&self, place: usize, operations: Vec<Operation>) -> Result<(), SqsError> {
-        self.begin(place, self.queues.nameless(), operations).await.into_iter().try_for_each(|answer| answer.map(drop))
+        self.begin(place, self.shared.queues.nameless(), operations)
+            .await
+            .into_iter()
+            .try_for_each(|answer| answer.map(drop))
     }
 
     /// Has the book say of a queue what changes. It is asked for at once.
@@ -162,18 +162,18 @@ impl Store {
 
     /// The key of this queue's handles.
     pub fn handle_key(&self, queue: &Queue) -> HandleKey {
-        self.queues.handle_key(queue, || self.place_of(&queue.name))
+        self.shared.queues.handle_key(queue, || self.place_of(&queue.name))
     }
 
     /// By what the copies that come to this queue are known, where nothing but the store says which there were.
     pub fn secret_of(&self, target: &Queue) -> Option<Uuid> {
-        self.queues.secret(self.place_of(&target.name))
+        self.shared.queues.secret(self.place_of(&target.name))
     }
 
     /// Has the book say what an attempt was given, where nothing else keeps it. Where there is no room for that, a start doesn't
     /// know it.
     pub async fn keep_attempt(&self, queue: &Queue, attempt: &AttemptId) {
-        let entry = queue.state().entry_of_attempt(attempt, self.clock.now());
+        let entry = queue.state().entry_of_attempt(attempt, self.shared.clock.now());
         if let Some(entry) = entry.filter(|_| self.is_kept) {
             let say = Operation::Say(Entry::Attempt(entry));
             if let Err(error) = self.perform_nameless(self.place_of(&queue.name), vec![say]).await {
@@ -194,12 +194,12 @@ impl Store {
             };
             let place = store.place_of(&queue.name);
             if let Err(error) = store.ask(&queue, Ask::Create { store: name, visibility, bytes }).await {
-                store.queues.names().give_back(place, name, store.clock.now());
+                store.shared.queues.names().give_back(place, name, store.shared.clock.now());
                 return Err(error);
             }
             let said = store.change(&queue, TableChange::Created).await;
             if said.is_err() {
-                store.queues.left_over().add(place, [name]);
+                store.shared.queues.left_over().add(place, [name]);
             }
             said
         });
@@ -326,21 +326,21 @@ impl Store {
 
     /// Clients are served from now on. A node that carries what is asked is told so.
     pub fn says_that_it_serves(&self) {
-        self.counters.serves.store(true, Ordering::Relaxed);
+        self.shared.counters.serves.store(true, Ordering::Relaxed);
     }
 
     /// The figures of this moment. Nothing waits for them.
     pub fn figures(&self) -> Figures {
-        self.admission.look_at_ages(self.clock.now());
+        self.shared.admission.look_at_ages(self.shared.clock.now());
         Figures {
-            queues: self.queues.count(),
-            memory_bytes: self.admission.bytes_in_use(),
-            memory_bound: self.admission.memory.limit(),
-            is_disk_short: self.admission.is_disk_short(),
-            lacked_room: self.counters.lacked_room.load(Ordering::Relaxed),
-            restarts: self.counters.restarts.load(Ordering::Relaxed),
-            clock_lead: self.clock.lead().as_secs(),
-            open: self.counters.open.load(Ordering::Relaxed),
+            queues: self.shared.queues.count(),
+            memory_bytes: self.shared.admission.bytes_in_use(),
+            memory_bound: self.shared.admission.memory.limit(),
+            is_disk_short: self.shared.admission.is_disk_short(),
+            lacked_room: self.shared.counters.lacked_room.load(Ordering::Relaxed),
+            restarts: self.shared.counters.restarts.load(Ordering::Relaxed),
+            clock_lead: self.shared.clock.lead().as_secs(),
+            open: self.shared.counters.open.load(Ordering::Relaxed),
         }
     }
 }

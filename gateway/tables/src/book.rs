@@ -98,7 +98,7 @@ impl ProgramEntry {
 /// The form of a book, as an entry of any build says it: 0 where it says which program has the book, and no form.
 pub fn form_said_by(entry: &str) -> Option<u32> {
     #[derive(Deserialize)]
-    struct Said {
+    struct FormEntry {
         program: Program,
     }
     #[derive(Deserialize)]
@@ -107,7 +107,7 @@ pub fn form_said_by(entry: &str) -> Option<u32> {
         form: u32,
     }
     let may_say = entry.starts_with("{\"program\":");
-    may_say.then(|| serde_json::from_str::<Said>(entry).ok()).flatten().map(|said| said.program.form)
+    may_say.then(|| serde_json::from_str::<FormEntry>(entry).ok()).flatten().map(|said| said.program.form)
 }
 
 /// What a receive with an attempt id was given, out of the queue of this mark. It counts as long as its messages are in
@@ -319,7 +319,7 @@ impl LeftOver {
 
 #[cfg(test)]
 mod tests {
-    use hobbychair_bytes::values::STORE_LIMIT;
+    use hobbychair_bytes::values::STORE_LIMIT_BYTES;
     use hobbychair_sqs::texts::QueueKind;
 
     use super::*;
@@ -342,7 +342,7 @@ mod tests {
         let name = QueueName::parse(&format!("{}.fifo", "q".repeat(75))).unwrap();
         let entry = QueueEntry::new(StoreName(u64::MAX >> 3), name, u64::MAX, attributes, tags.collect(), u64::MAX);
         let text = serde_json::to_string(&Entry::Queue(entry.clone())).unwrap();
-        assert!((120_000..STORE_LIMIT).contains(&text.len()), "{}", text.len());
+        assert!((120_000..STORE_LIMIT_BYTES).contains(&text.len()), "{}", text.len());
         assert_eq!(serde_json::from_str::<Entry>(&text).unwrap(), Entry::Queue(entry));
     }
 

@@ -5,10 +5,10 @@ use std::sync::atomic::{AtomicUsize, Ordering};
 use std::sync::Arc;
 
 /// So many bytes of a request count with its connection, of which there is a bound as well.
-const FREE: usize = 1 << 10;
+const FREE_BYTES: usize = 1 << 10;
 
 /// A request with no more bytes is a small one.
-const SMALL: usize = 16 << 10;
+const SMALL_BYTES: usize = 16 << 10;
 
 /// Small ones may take more than the bound by this part of it: whoever sends large ones and never ends them keeps no ordinary one
 /// out.
@@ -29,7 +29,11 @@ pub struct Budget {
 impl Budget {
     /// All requests keep so many bytes at most, and small ones a quarter more.
     pub fn new(most: usize) -> Budget {
-        Budget { small: SMALL, most_with_small: most.saturating_add(most / RESERVE), ..Budget::of(most, FREE) }
+        Budget {
+            small: SMALL_BYTES,
+            most_with_small: most.saturating_add(most / RESERVE),
+            ..Budget::of(most, FREE_BYTES)
+        }
     }
 
     /// The same for requests of any length, of each of which so many bytes count nothing.
@@ -113,14 +117,14 @@ mod tests {
         let most = 64 << 20;
         let budget = Budget::new(most);
         let large = budget.share();
-        assert!(large.try_set(most) && !budget.share().try_set(SMALL + 1));
+        assert!(large.try_set(most) && !budget.share().try_set(SMALL_BYTES + 1));
         let small: Vec<Share> = (0..10_000).map(|_| budget.share()).collect();
-        let counted = small.iter().filter(|share| share.try_set(SMALL)).count();
+        let counted = small.iter().filter(|share| share.try_set(SMALL_BYTES)).count();
         assert!((1000..1200).contains(&counted) && budget.used() <= most + most / RESERVE, "{counted}");
         // What counts with connections is there at all times, and what went back is there again.
-        assert!(budget.share().try_set(FREE) && !budget.share().try_set(SMALL));
+        assert!(budget.share().try_set(FREE_BYTES) && !budget.share().try_set(SMALL_BYTES));
         drop(large);
-        let counted = small.iter().filter(|share| share.try_set(SMALL)).count();
+        let counted = small.iter().filter(|share| share.try_set(SMALL_BYTES)).count();
         assert!((5000..6000).contains(&counted) && budget.used() <= most + most / RESERVE, "{counted}");
         drop(small);
         assert_eq!(budget.used(), 0);

@@ -9,18 +9,18 @@ use hobbychair_bytes::values::{Delivery, KeptHandings, Part, QueuePart, Receipt,
 
 use crate::store_name::StoreName;
 
-const WINDOW: u64 = 300_000;
+const WINDOW_MILLISECONDS: u64 = 300_000;
 
 /// A store that keeps to the rules.
 #[derive(Clone, Default)]
 pub struct StoreByRules {
     entries: u64,
     last: Moment,
-    names: BTreeMap<StoreName, Name>,
+    names: BTreeMap<StoreName, NameByRules>,
 }
 
 #[derive(Clone, Default)]
-struct Name {
+struct NameByRules {
     creations: u64,
     removed: Option<Moment>,
     queue: Option<LivingQueue>,
@@ -33,12 +33,12 @@ struct LivingQueue {
     sent: u64,
     uses: u64,
     last: Moment,
-    messages: BTreeMap<u64, Message>,
+    messages: BTreeMap<u64, MessageByRules>,
     accepted: Vec<(String, Moment, u64)>,
 }
 
 #[derive(Clone)]
-struct Message {
+struct MessageByRules {
     group: String,
     body: Arc<str>,
     handings: u64,
@@ -92,7 +92,7 @@ impl StoreByRules {
     }
 }
 
-impl Name {
+impl NameByRules {
     fn create(&mut self, timeout: u32, now: Moment) -> StoreReply {
         match &self.queue {
             Some(queue) if queue.timeout == timeout => StoreReply::Created(queue.incarnation),
@@ -116,7 +116,7 @@ impl Name {
         write(&Part::Name { name: text, creations, removed, queue });
         let Some(queue) = &self.queue else { return };
         for (sequence, message) in &queue.messages {
-            let Message { group, body, handings, handed, until } = message;
+            let MessageByRules { group, body, handings, handed, until } = message;
             let (handings, handed, until) = (*handings, *handed, *until);
             write(&Part::Message { sequence: *sequence, group, body, handings, handed, until });
         }
@@ -139,12 +139,12 @@ impl LivingQueue {
 
     fn send(&mut self, group: &str, id: &str, body: &str, now: Moment) -> StoreReply {
         (self.uses, self.last) = (self.uses + 1, now);
-        self.accepted.retain(|(_, moment, _)| now < moment + WINDOW);
+        self.accepted.retain(|(_, moment, _)| now < moment + WINDOW_MILLISECONDS);
         if let Some((_, _, first)) = self.accepted.iter().find(|(own, ..)| own == id) {
             return StoreReply::Sent(*first);
         }
         self.sent += 1;
-        let message = Message { group: group.into(), body: body.into(), handings: 0, handed: 0, until: 0 };
+        let message = MessageByRules { group: group.into(), body: body.into(), handings: 0, handed: 0, until: 0 };
         self.messages.insert(self.sent, message);
         self.accepted.push((id.into(), now, self.sent));
         StoreReply::Sent(self.sent)

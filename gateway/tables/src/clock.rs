@@ -146,9 +146,9 @@ mod tests {
 
     #[test]
     fn those_who_go_on_from_one_moment_side_by_side_set_the_clock_ahead_once() {
-        const HOUR: u64 = 3_600_000;
+        const HOUR_MILLISECONDS: u64 = 3_600_000;
         let clocks: Vec<_> = (0..20_000).map(|_| Clock::new()).collect();
-        let moment = clocks[0].now() + HOUR;
+        let moment = clocks[0].now() + HOUR_MILLISECONDS;
         let together = std::sync::Barrier::new(2);
         std::thread::scope(|scope| {
             for _ in 0..2 {
@@ -160,7 +160,7 @@ mod tests {
                 });
             }
         });
-        let ahead = clocks.iter().filter(|clock| clock.now() > moment + HOUR / 2).count();
+        let ahead = clocks.iter().filter(|clock| clock.now() > moment + HOUR_MILLISECONDS / 2).count();
         assert_eq!(ahead, 0, "so many were set ahead twice");
     }
 }

@@ -37,7 +37,7 @@ pub enum ImageError {
 }
 
 /// Of clients whose last request handed messages out: its number, and the receipts.
-type Handed = HashMap<u32, (u64, Vec<Receipt>)>;
+type HandedReceipts = HashMap<u32, (u64, Vec<Receipt>)>;
 
 /// What the bytes of one program's store say, as far as the tables need it.
 #[derive(Default)]
@@ -47,7 +47,7 @@ pub struct Image {
     keeps_copies: bool,
     last: Moment,
     largest_number: u64,
-    handed: Handed,
+    handed: HandedReceipts,
     /// The names that the store has had, and those of their queues that live.
     names: BTreeMap<StoreName, StoredName>,
     current: Option<StoreName>,
@@ -65,7 +65,7 @@ pub struct Image {
 const LARGEST: u64 = u64::MAX / 2;
 
 /// No more of these are kept. Whatever attempt was given others is forgotten.
-const MOST_IN_FLIGHT: usize = 64 << 20;
+const MOST_BYTES_IN_FLIGHT: usize = 64 << 20;
 
 /// A name as the store has it.
 struct StoredName {
@@ -157,7 +157,7 @@ impl Image {
 
     fn take_message(&mut self, part: &Part<'_>) {
         let Part::Message { sequence, group, body, handings, handed, until } = *part else { return };
-        let is_in_flight = until > self.last && self.in_flight + body.len() <= MOST_IN_FLIGHT;
+        let is_in_flight = until > self.last && self.in_flight + body.len() <= MOST_BYTES_IN_FLIGHT;
         if is_in_flight {
             self.in_flight += body.len();
         }
@@ -185,6 +185,11 @@ impl Image {
 }
 
 impl Queues {
+    /// An image for these tables, of a store that is still to be told.
+    pub fn new_image(&self) -> Image {
+        Image::new(self.keeps_copies)
+    }
+
     /// Takes up what the store of a program has. Of no queue of it anything was known.
     pub fn take_up(&self, shard: Shard, image: Image) -> Result<(), ImageError> {
         let place = shard.place();
@@ -201,7 +206,7 @@ impl Queues {
         if let Some(store) = image.foreign {
             return Err(ImageError::Foreign(store.to_string(), "a message of it is no envelope"));
         }
-        let Told { by_mark, mut attempts, mut asked, .. } = self.take_up_books(shard, books)?;
+        let BookContents { by_mark, mut attempts, mut asked, .. } = self.take_up_books(shard, books)?;
         let is_there = |queue: &Arc<Queue>| self.find(&queue.name).is_some_and(|found| Arc::ptr_eq(&found, queue));
         for (mark, queue) in by_mark.into_iter().filter(|(_, queue)| is_there(queue)) {
             let store = queue.state().entry.store;
@@ -231,9 +236,13 @@ impl Queues {
     }
 
     /// Takes up what books say, in their order.
-    fn take_up_books(&self, shard: Shard, books: BTreeMap<StoreName, StoredQueue>) -> Result<Told<'_>, ImageError> {
+    fn take_up_books(
+        &self,
+        shard: Shard,
+        books: BTreeMap<StoreName, StoredQueue>,
+    ) -> Result<BookContents<'_>, ImageError> {
         let place = shard.place();
-        let mut told = Told::new(self, place);
+        let mut told = BookContents::new(self, place);
         for (_, number, entries) in in_order(shard, books)? {
             self.books.add(place, number);
             for (entry, size) in entries {
@@ -289,7 +298,7 @@ fn test_forms(books: &BTreeMap<StoreName, StoredQueue>) -> Result<(), ImageError
 }
 
 /// What an attempt was given by a request that is its client's last one.
-fn untold(handed: &Handed, asked: AttemptRequest) -> Option<(AttemptId, Vec<Receipt>)> {
+fn untold(handed: &HandedReceipts, asked: AttemptRequest) -> Option<(AttemptId, Vec<Receipt>)> {
     let (_, receipts) = handed.get(&asked.client).filter(|(number, _)| *number == asked.number)?;
     Some((asked.id, receipts.clone()))
 }
@@ -333,7 +342,7 @@ fn is_of_program(entry: &Entry, shard: Shard) -> bool {
 }
 
 /// What books have said so far.
-struct Told<'a> {
+struct BookContents<'a> {
     queues: &'a Queues,
     place: usize,
     by_mark: HashMap<u64, Arc<Queue>>,
@@ -343,10 +352,10 @@ struct Told<'a> {
     asked: HashMap<u64, Vec<AttemptRequest>>,
 }
 
-impl Told<'_> {
-    fn new(queues: &Queues, place: usize) -> Told<'_> {
+impl BookContents<'_> {
+    fn new(queues: &Queues, place: usize) -> BookContents<'_> {
         let (by_mark, tasks, attempts, asked) = Default::default();
-        Told { queues, place, by_mark, tasks, attempts, asked }
+        BookContents { queues, place, by_mark, tasks, attempts, asked }
     }
 
     fn take(&mut self, entry: &Entry, book: u64, size: u64) {

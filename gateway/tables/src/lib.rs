@@ -22,6 +22,7 @@ pub mod parts;
 pub mod presence;
 pub mod queue;
 pub mod queues;
+mod removals;
 pub mod shards;
 pub mod state;
 pub mod store_name;

@@ -3,10 +3,10 @@
 use std::sync::atomic::{AtomicBool, AtomicU64, Ordering};
 
 /// A bound is full from this share of it on, in percent.
-const FULL: u64 = 95;
+const FULL_PERCENT: u64 = 95;
 
 /// One that was full is so until less than this share is in use, in percent.
-const FREE: u64 = 90;
+const FREE_PERCENT: u64 = 90;
 
 /// What a message takes in the tables and in the store beside its envelope, its deduplication id among it, in bytes. With
 /// 50,000 messages in as many groups both processes grew by 1,899 bytes each, and their envelopes had 214.
@@ -32,8 +32,15 @@ pub const GONE_NAME_BYTES: u64 = 1_700;
 /// The same in bytes of a file.
 pub const STORED_NAME_BYTES: u64 = 100;
 
-/// Where names that are gone take so large a part of a bound, no more queues are made: messages have the rest.
-const PART_FOR_NAMES: u64 = 4;
+/// What the removal of a queue takes of memory for the minute of its pause: an entry of the book, of up to 150 bytes beside what
+/// a message takes.
+pub const REMOVAL_BYTES: u64 = MESSAGE_BYTES + 150;
+/// The same in bytes of a file, by an estimate: its entry, as much that a book may have beside what counts, and once more while a
+/// fresh book is written.
+pub const STORED_REMOVAL_BYTES: u64 = 3 * (STORED_MESSAGE_BYTES + 100);
+
+/// Where names that are gone take so large a part of a bound, or removals do, no more queues are made: messages have the rest.
+const PART_FOR_GONE: u64 = 4;
 
 /// What is left of the call of a send to a standard queue for five minutes, in bytes: a part of its digest, kept twice,
 /// and which message it sent.
@@ -58,15 +65,16 @@ impl Bound {
         Some(self.limit.load(Ordering::Relaxed)).filter(|limit| *limit > 0)
     }
 
-    /// Whether names that are gone may take so many bytes of it where another queue is made.
-    pub fn takes_names(&self, bytes: u64) -> bool {
-        self.limit().map_or(true, |limit| bytes < limit / PART_FOR_NAMES)
+    /// Whether what is kept of queues that are gone, their names or their removals, may take so many bytes of it where another one is
+    /// made.
+    pub fn takes_gone(&self, bytes: u64) -> bool {
+        self.limit().map_or(true, |limit| bytes < limit / PART_FOR_GONE)
     }
 
     /// Whether it is full, now that so many bytes are in use.
     pub fn is_full(&self, used: u64) -> bool {
         let Some(limit) = self.limit() else { return false };
-        let share = if self.is_full.load(Ordering::Relaxed) { FREE } else { FULL };
+        let share = if self.is_full.load(Ordering::Relaxed) { FREE_PERCENT } else { FULL_PERCENT };
         let is_full = u128::from(used) * 100 >= u128::from(limit) * u128::from(share);
         self.is_full.store(is_full, Ordering::Relaxed);
         is_full
@@ -78,11 +86,11 @@ mod tests {
     use super::*;
 
     #[test]
-    fn names_that_are_gone_have_a_quarter_of_a_bound() {
+    fn what_is_gone_has_a_quarter_of_a_bound() {
         let bound = Bound::default();
-        assert!(bound.takes_names(u64::MAX));
+        assert!(bound.takes_gone(u64::MAX));
         bound.set(Some(400));
-        assert!(bound.takes_names(99) && !bound.takes_names(100));
+        assert!(bound.takes_gone(99) && !bound.takes_gone(100));
     }
 
     #[test]

@@ -7,16 +7,16 @@ use std::sync::{Arc, Mutex, MutexGuard, PoisonError, Weak};
 
 use hobbychair_bytes::moment::Moment;
 
-use crate::state::WINDOW;
+use crate::state::WINDOW_MILLISECONDS;
 use crate::store_name::StoreName;
 
 /// So long a name isn't free after its queue was removed, in milliseconds
 /// (API Reference, CreateQueue, `QueueDeletedRecently`).
-pub const REMOVAL_PAUSE: u64 = 60_000;
+pub const REMOVAL_PAUSE_MILLISECONDS: u64 = 60_000;
 
 /// So long after it went a name isn't used again, in milliseconds: the minute for which the store refuses it, and the five minutes
 /// for which ids count.
-pub const REUSE_PAUSE: u64 = REMOVAL_PAUSE + WINDOW;
+pub const REUSE_PAUSE_MILLISECONDS: u64 = REMOVAL_PAUSE_MILLISECONDS + WINDOW_MILLISECONDS;
 
 /// As long as somebody has it, a name of the store isn't used again.
 pub type InUse = Arc<()>;
@@ -77,7 +77,7 @@ impl OfProgram {
 
     fn take(&mut self, is_book: bool, now: Moment) -> Option<StoreName> {
         let (since, name) = *self.waiting(is_book).front()?;
-        if since.max(self.found_before) + REUSE_PAUSE > now {
+        if since.max(self.found_before) + REUSE_PAUSE_MILLISECONDS > now {
             return None;
         }
         self.waiting(is_book).pop_front();
@@ -243,14 +243,17 @@ mod tests {
         drop([created(&names, OTHER, 1), created(&names, QUEUE, 1)]);
         names.removed(0, QUEUE, 1000);
         names.removed(0, OTHER, 1001);
-        assert_eq!((names.gone(0), names.take(0, 999 + REUSE_PAUSE), names.take(1, u64::MAX)), (2, None, None));
-        assert_eq!(names.take(0, 1000 + REUSE_PAUSE), Some(QUEUE));
-        assert_eq!((names.take(0, 1000 + REUSE_PAUSE), names.gone(0)), (None, 2));
+        assert_eq!(
+            (names.gone(0), names.take(0, 999 + REUSE_PAUSE_MILLISECONDS), names.take(1, u64::MAX)),
+            (2, None, None)
+        );
+        assert_eq!(names.take(0, 1000 + REUSE_PAUSE_MILLISECONDS), Some(QUEUE));
+        assert_eq!((names.take(0, 1000 + REUSE_PAUSE_MILLISECONDS), names.gone(0)), (None, 2));
         // It counts as gone until it is there, and then no more.
         assert!(!names.is_new(0, QUEUE) && names.is_new(0, StoreName(7)) && names.is_new(1, QUEUE));
         created(&names, QUEUE, 2);
         assert_eq!((names.gone(0), names.all_gone()), (1, 1));
-        assert_eq!(names.take(0, 1001 + REUSE_PAUSE), Some(OTHER));
+        assert_eq!(names.take(0, 1001 + REUSE_PAUSE_MILLISECONDS), Some(OTHER));
         assert_eq!(names.take(0, u64::MAX), None);
     }
 
@@ -260,16 +263,19 @@ mod tests {
         let (in_use, _) = (created(&names, QUEUE, 1), created(&names, OTHER, 1));
         names.removed(0, QUEUE, 1000);
         names.removed(0, OTHER, 1000);
-        let now = 1000 + REUSE_PAUSE;
+        let now = 1000 + REUSE_PAUSE_MILLISECONDS;
         assert_eq!((names.take(0, now), names.take(0, now)), (None, Some(OTHER)));
         drop(in_use);
-        assert_eq!((names.take(0, now + REUSE_PAUSE - 1), names.take(0, now + REUSE_PAUSE)), (None, Some(QUEUE)));
+        assert_eq!(
+            (names.take(0, now + REUSE_PAUSE_MILLISECONDS - 1), names.take(0, now + REUSE_PAUSE_MILLISECONDS)),
+            (None, Some(QUEUE))
+        );
         // Who is about to remove it once more has it, too.
         names.give_back(0, QUEUE, now);
         let kept = names.keep(0, QUEUE);
-        assert_eq!(names.take(0, now + REUSE_PAUSE), None);
+        assert_eq!(names.take(0, now + REUSE_PAUSE_MILLISECONDS), None);
         drop(kept);
-        assert_eq!(names.take(0, now + 2 * REUSE_PAUSE), Some(QUEUE));
+        assert_eq!(names.take(0, now + 2 * REUSE_PAUSE_MILLISECONDS), Some(QUEUE));
     }
 
     #[test]
@@ -282,9 +288,12 @@ mod tests {
         let [main, delays] = in_use;
         drop(main);
         // Somebody has what was delayed.
-        assert_eq!((names.take(0, 1999 + REUSE_PAUSE), names.take(0, 2000 + REUSE_PAUSE)), (None, None));
+        assert_eq!(
+            (names.take(0, 1999 + REUSE_PAUSE_MILLISECONDS), names.take(0, 2000 + REUSE_PAUSE_MILLISECONDS)),
+            (None, None)
+        );
         drop(delays);
-        assert_eq!((names.take(0, 2000 + 2 * REUSE_PAUSE), names.gone(0)), (Some(QUEUE), 2));
+        assert_eq!((names.take(0, 2000 + 2 * REUSE_PAUSE_MILLISECONDS), names.gone(0)), (Some(QUEUE), 2));
         created(&names, QUEUE, 2);
         created(&names, QUEUE.of_delays(), 2);
         assert_eq!(names.gone(0), 0);
@@ -305,11 +314,14 @@ mod tests {
             (StoreName::of_book(1), 1, Some(1)),
         ];
         names.find(0, found);
-        assert_eq!((names.gone(0), names.take(0, 799 + REUSE_PAUSE)), (6, None));
-        let taken: Vec<_> = (0..4).map(|_| names.take(0, 1000 + REUSE_PAUSE)).collect();
+        assert_eq!((names.gone(0), names.take(0, 799 + REUSE_PAUSE_MILLISECONDS)), (6, None));
+        let taken: Vec<_> = (0..4).map(|_| names.take(0, 1000 + REUSE_PAUSE_MILLISECONDS)).collect();
         assert_eq!(taken, [Some(OTHER), Some(StoreName(4)), Some(QUEUE), None]);
-        let books =
-            [names.take_book(0, REUSE_PAUSE), names.take_book(0, 1 + REUSE_PAUSE), names.take_book(0, u64::MAX)];
+        let books = [
+            names.take_book(0, REUSE_PAUSE_MILLISECONDS),
+            names.take_book(0, 1 + REUSE_PAUSE_MILLISECONDS),
+            names.take_book(0, u64::MAX),
+        ];
         assert_eq!(books, [None, Some(StoreName::of_book(1)), None]);
         assert!(names.created(0, QUEUE, 4, Weak::new()) && names.created(0, delays, 3, Weak::new()));
     }
@@ -319,7 +331,10 @@ mod tests {
         let names = Names::default();
         names.find(0, [(QUEUE, 1, Some(700))]);
         names.wait_from(5000);
-        assert_eq!((names.take(0, 4999 + REUSE_PAUSE), names.take(0, 5000 + REUSE_PAUSE)), (None, Some(QUEUE)));
+        assert_eq!(
+            (names.take(0, 4999 + REUSE_PAUSE_MILLISECONDS), names.take(0, 5000 + REUSE_PAUSE_MILLISECONDS)),
+            (None, Some(QUEUE))
+        );
     }
 
     #[test]
@@ -352,8 +367,8 @@ mod tests {
         names.removed(0, QUEUE, 1000);
         names.give_back(0, QUEUE, 1000);
         names.give_back(0, QUEUE, 2000);
-        let taken: Vec<_> = (0..4).map(|_| names.take(0, 1999 + REUSE_PAUSE)).collect();
+        let taken: Vec<_> = (0..4).map(|_| names.take(0, 1999 + REUSE_PAUSE_MILLISECONDS)).collect();
         assert_eq!(taken, [None; 4]);
-        assert_eq!((names.take(0, 2000 + REUSE_PAUSE), names.take(0, u64::MAX)), (Some(QUEUE), None));
+        assert_eq!((names.take(0, 2000 + REUSE_PAUSE_MILLISECONDS), names.take(0, u64::MAX)), (Some(QUEUE), None));
     }
 }

@@ -10,20 +10,20 @@ use hobbychair_sqs::errors::SqsError;
 use tokio::sync::Notify;
 
 use crate::ask::{Outcome, PartsAsk};
-use crate::names::REMOVAL_PAUSE;
+use crate::names::REMOVAL_PAUSE_MILLISECONDS;
 use crate::shards::Shards;
 
 /// A queue that has parts.
 #[derive(Debug, Default)]
-struct Entry {
+struct PartsQueue {
     is_there: bool,
     /// How many messages name it.
     named: u64,
 }
 
 #[derive(Debug, Default)]
-struct Entries {
-    by_number: HashMap<u64, Entry>,
+struct PartsQueues {
+    by_number: HashMap<u64, PartsQueue>,
     /// Those that no message names any more.
     freed: HashSet<u64>,
     last_number: u64,
@@ -32,7 +32,7 @@ struct Entries {
     are_used_again: bool,
 }
 
-impl Entries {
+impl PartsQueues {
     fn free_unless_named(&mut self, number: u64) {
         if self.by_number.get(&number).is_some_and(|entry| entry.is_there && entry.named == 0) {
             self.freed.insert(number);
@@ -43,12 +43,12 @@ impl Entries {
 /// All of them.
 #[derive(Debug, Default)]
 pub struct Parts {
-    entries: Mutex<Entries>,
+    entries: Mutex<PartsQueues>,
     some_freed: Notify,
 }
 
 impl Parts {
-    fn entries(&self) -> MutexGuard<'_, Entries> {
+    fn entries(&self) -> MutexGuard<'_, PartsQueues> {
         self.entries.lock().unwrap_or_else(PoisonError::into_inner)
     }
 
@@ -57,7 +57,7 @@ impl Parts {
     pub fn next_number(&self, shards: Shards, place: usize, now: Option<Moment>) -> u64 {
         let mut entries = self.entries();
         entries.are_used_again |= now.is_some();
-        let is_free = |removed: Moment| now.is_some_and(|now| removed + REMOVAL_PAUSE <= now);
+        let is_free = |removed: Moment| now.is_some_and(|now| removed + REMOVAL_PAUSE_MILLISECONDS <= now);
         let mut free = entries.removed.iter().take_while(|(removed, _)| is_free(*removed));
         if let Some(found) = free.find(|(_, number)| shards.place_of_number(*number) == place).copied() {
             entries.removed.remove(&found);
@@ -270,9 +270,14 @@ mod tests {
             parts.apply_reply(*number, &PartsAsk::Remove, StoreReply::Removed, moment).unwrap();
         }
         let next = |place, now| parts.next_number(shards, place, now);
-        let fresh = [next(0, None), next(1, Some(REMOVAL_PAUSE + 5)), next(0, Some(REMOVAL_PAUSE + 4))];
+        let fresh = [
+            next(0, None),
+            next(1, Some(REMOVAL_PAUSE_MILLISECONDS + 5)),
+            next(0, Some(REMOVAL_PAUSE_MILLISECONDS + 4)),
+        ];
         assert!(fresh.iter().all(|number| !numbers.contains(number)));
-        let again = [(1, 6), (0, 7), (0, 7)].map(|(place, since)| next(place, Some(REMOVAL_PAUSE + since)));
+        let again =
+            [(1, 6), (0, 7), (0, 7)].map(|(place, since)| next(place, Some(REMOVAL_PAUSE_MILLISECONDS + since)));
         assert_eq!(again, [numbers[1], numbers[0], numbers[2]]);
         assert!(!numbers.contains(&next(0, Some(u64::MAX))));
     }

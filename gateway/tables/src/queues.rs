@@ -18,9 +18,10 @@ use crate::book::{size_of_text, Books, Entry, LeftOver, ProgramEntry, QueueEntry
 use crate::copies::Copies;
 use crate::jumps::Jumps;
 use crate::limits::STORED_NAME_BYTES;
-use crate::names::{Names, REMOVAL_PAUSE};
+use crate::names::Names;
 use crate::parts::Parts;
 use crate::queue::Queue;
+use crate::removals::RecentRemovals;
 use crate::shards::{Shard, Shards};
 use crate::state::State;
 use crate::store_name::StoreName;
@@ -30,7 +31,7 @@ use crate::store_name::StoreName;
 pub struct Queues {
     by_name: RwLock<BTreeMap<QueueName, Arc<Queue>>>,
     /// The removals of names whose pause may not be over.
-    removed: Mutex<HashMap<QueueName, Removal>>,
+    removed: Mutex<RecentRemovals>,
     last_store_name: AtomicU64,
     last_book: AtomicU64,
     pub(crate) books: Books,
@@ -150,17 +151,26 @@ impl Queues {
 
     /// Refuses a name whose queue was removed less than a minute before.
     pub fn test_pause(&self, name: &QueueName, now: Moment) -> Result<(), SqsError> {
-        let removed = self.removed.lock().unwrap_or_else(PoisonError::into_inner);
-        match removed.get(name) {
-            Some(removal) if now < removal.at + REMOVAL_PAUSE => Err(SqsError::QueueDeletedRecently),
-            _ => Ok(()),
+        match self.recent_removals().has(name, now) {
+            true => Err(SqsError::QueueDeletedRecently),
+            false => Ok(()),
         }
     }
 
     /// The removals whose pause isn't over.
     pub fn removals(&self, now: Moment) -> Vec<Removal> {
-        let removed = self.removed.lock().unwrap_or_else(PoisonError::into_inner);
-        removed.values().filter(|removal| now < removal.at + REMOVAL_PAUSE).cloned().collect()
+        self.recent_removals().all(now)
+    }
+
+    /// How many names they are of.
+    pub fn count_removals(&self, now: Moment) -> u64 {
+        let mut removals = self.recent_removals();
+        removals.forget_until(now);
+        removals.count()
+    }
+
+    fn recent_removals(&self) -> MutexGuard<'_, RecentRemovals> {
+        self.removed.lock().unwrap_or_else(PoisonError::into_inner)
     }
 
     /// A name of the store for a queue of the program at this place: one that is free again by this moment, or that no queue has
@@ -475,9 +485,7 @@ impl Queues {
 
     /// A queue was removed.
     pub fn remember_removal(&self, removal: &Removal) {
-        let mut removed = self.removed.lock().unwrap_or_else(PoisonError::into_inner);
-        removed.retain(|_, earlier| removal.at < earlier.at + REMOVAL_PAUSE);
-        removed.insert(removal.name.clone(), removal.clone());
+        self.recent_removals().add(removal);
     }
 }
 

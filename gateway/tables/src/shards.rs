@@ -54,6 +54,9 @@ pub struct Shard {
 }
 
 impl Shard {
+    /// That of a program which has all queues.
+    pub const ONLY: Shard = Shard { shards: Shards::ONE, place: 0 };
+
     /// Whether it has the queue of this name.
     pub fn has(self, name: &QueueName) -> bool {
         self.shards.place_of(name) == self.place as usize

@@ -20,7 +20,7 @@ use crate::state::State;
 use crate::store_name::StoreName;
 
 #[derive(Clone, Debug)]
-struct Message {
+struct ListedMessage {
     group: &'static str,
     sent: Moment,
     until: Moment,
@@ -30,7 +30,7 @@ struct Message {
 /// The messages that aren't deleted, by their sequence numbers. Of delays the store knows nothing; the list does.
 #[derive(Default)]
 struct List {
-    messages: BTreeMap<u64, Message>,
+    messages: BTreeMap<u64, ListedMessage>,
     sent: u64,
     delay: u64,
 }
@@ -115,12 +115,12 @@ struct Both {
 const GROUPS: [&str; 9] = ["1", "2", "3", "4", "5", "6", "7", "8", "9"];
 
 /// Messages are kept so long.
-const PERIOD: u64 = 100_000;
+const PERIOD_MILLISECONDS: u64 = 100_000;
 
 const START: Moment = 1_700_000_000_000;
 
 fn state_at_start(kind: QueueKind) -> State {
-    let given = [("MessageRetentionPeriod".to_string(), (PERIOD / 1000).to_string())];
+    let given = [("MessageRetentionPeriod".to_string(), (PERIOD_MILLISECONDS / 1000).to_string())];
     let attributes = QueueAttributes::for_creation(kind, &GivenAttributes::read(kind, &given).unwrap()).unwrap();
     let name = QueueName::parse(if kind == QueueKind::Fifo { "q.fifo" } else { "q" }).unwrap();
     State::new(&QueueEntry::new(StoreName(1), name, 1, attributes, BTreeMap::new(), START))
@@ -147,7 +147,7 @@ impl Both {
             self.list.sent -= 1;
             return;
         }
-        self.list.messages.insert(sequence, Message { group, sent: self.now, until: 0, count: 0 });
+        self.list.messages.insert(sequence, ListedMessage { group, sent: self.now, until: 0, count: 0 });
         let envelope = Envelope::from(format!("{{\"sent\":{}}}\nb", self.now));
         let (group, dedup) = (GroupId::parse(group).unwrap(), DedupId::parse("d").unwrap());
         self.apply_reply(&Ask::Send { group, dedup, envelope, cause: Cause::Client }, StoreReply::Sent(sequence));
@@ -251,7 +251,7 @@ impl Both {
             }
             Step::Sweep(most) => {
                 let old = self.state.next_old(*most, &Jumps::default(), self.now);
-                let horizon = self.now - PERIOD;
+                let horizon = self.now - PERIOD_MILLISECONDS;
                 self.take(old, *most, |list, sequence| list.messages[&sequence].sent <= horizon)?;
             }
             Step::TakeUpTo(place, most) => {

@@ -9,6 +9,13 @@ use Rattle.cq_frame_loop.specs.declared.fault.LoopFault.TheVariants.{NoMemory, R
 use Rattle.cq_frame_loop.specs.declared.settling.SettledFault.{SettledFault}
 use Rattle.cq_frame_loop.specs.declared.settling.SettledFault.TheVariants.{Loop, Unsettled}
 
+-- All that some answers told, which led to this state, waits to be written.
+pub record Waits {S : Type 0} (answers : Relation S) (told : List ℕ) (state : S) : Type 0 where
+  pub first : S
+  pub steps : List (Step S)
+  pub chain : IsChain answers first steps state
+  pub whole : text_in steps ≡ told
+
 -- nothing was settled, or something was
 abbrev pub Rested : {S : Type 0} → (S → S → Type 0) → S → S → Type 0
 Rested rests old new = (new ≡ old) ⊎ rests old new

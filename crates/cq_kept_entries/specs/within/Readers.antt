@@ -1,9 +1,11 @@
 -- What has been read of what is kept.
-use Rattle.std.specs.Prelude.{◌≡◌, ℕ, List, Option, length}
+use Rattle.std.specs.Prelude.{◌≡◌, ℕ, List, Option, length, ⊤}
 use Rattle.cq_base.specs.declared.ask.Entry.{Entry}
 use Rattle.cq_records.specs.Frames.{joined}
 use Rattle.cq_store.specs.Stands as stores
-use Rattle.cq_kept_entries.specs.Pieces.{AreEntries, At, Stage, fresh, listing, read, start, storing}
+use Rattle.cq_wire.specs.declared.fault.ReadFault.{ReadFault}
+use Rattle.cq_wire.specs.declared.fault.ReadFault.TheVariants as faults
+use Rattle.cq_kept_entries.specs.Pieces.{AreEntries, AreTaken, At, MeansAt, Stage, fresh, listing, read, start, storing}
 use Rattle.cq_kept_entries.specs.declared.contents.ContentsReader.{ContentsReader}
 use Rattle.cq_kept_entries.specs.declared.reader.EntriesReader.{EntriesReader}
 use Rattle.cq_kept_entries.specs.declared.reader.Progress.{Progress}
@@ -25,6 +27,15 @@ IsMade stage (progress.Listing store) = IsListed stage store
 pub record IsReader (a : At) (reader : EntriesReader) : Type 0 where
   pub piece : a.piece ≡ reader.piece.items
   pub made : IsMade a.stage reader.progress
+
+-- whatever bytes come behind these, no entries that a store takes are what all of them stand for
+abbrev pub IsRefused : At → Type 0
+IsRefused a = (rest : List ℕ) (all : List Entry) → MeansAt (read a rest) all → AreTaken all → ⊥
+
+-- where the bytes are at fault, and not memory
+abbrev pub IfBad : ReadFault → Type 0 → Type 0
+IfBad faults.NoMemory P = ⊤
+IfBad (faults.Bad fault) P = P
 
 -- these records were read
 pub record IsSoFar (before : List (List ℕ)) (so_far : ContentsReader) : Type 0 where

@@ -3,7 +3,7 @@
 use std::ops::Range;
 
 /// The bytes of a frame before its record.
-const HEAD: usize = 9;
+const HEAD_BYTES: usize = 9;
 
 /// The first byte of each frame.
 const GATE: u8 = 2;
@@ -12,7 +12,7 @@ const GATE: u8 = 2;
 const MARKS: [u8; 2] = [1, 2];
 
 /// The place of that byte in the head.
-const MARK: usize = HEAD - 1;
+const MARK_PLACE: usize = HEAD_BYTES - 1;
 
 /// How many values a digit has.
 const BASE: u64 = 254;
@@ -31,18 +31,20 @@ pub fn number(digits: &[u8]) -> u64 {
 
 /// Where the record of the frame stands that begins there. None: there is no whole one, so the log ends.
 pub fn record_at(log: &[u8], at: usize) -> Result<Option<Range<usize>>, Damaged> {
-    let Some(head) = log.get(at..at + HEAD).filter(|head| is_head(head)) else { return Ok(None) };
-    let start = at + HEAD;
+    let Some(head) = log.get(at..at + HEAD_BYTES).filter(|head| is_head(head)) else { return Ok(None) };
+    let start = at + HEAD_BYTES;
     let end = start + number(&head[1..4]) as usize;
     match log.get(start..end).filter(|record| is_plain(record)) {
         None => Ok(None),
-        Some(record) if u64::from(crc32fast::hash(record)) % SUMS == number(&head[4..MARK]) => Ok(Some(start..end)),
+        Some(record) if u64::from(crc32fast::hash(record)) % SUMS == number(&head[4..MARK_PLACE]) => {
+            Ok(Some(start..end))
+        }
         Some(_) => Err(Damaged),
     }
 }
 
 fn is_head(head: &[u8]) -> bool {
-    head[0] == GATE && MARKS.contains(&head[MARK]) && is_plain(&head[..MARK])
+    head[0] == GATE && MARKS.contains(&head[MARK_PLACE]) && is_plain(&head[..MARK_PLACE])
 }
 
 /// Whether no byte is 0 or 1.

@@ -30,12 +30,12 @@ const CHANGE: u8 = 5;
 const KINDS: u8 = 6;
 
 /// No ask of a queue that the gateway named has more bytes beside its texts.
-const MOST_BESIDE_TEXTS: usize = 64;
+const MOST_BYTES_BESIDE_TEXTS: usize = 64;
 
 impl<T: AsRef<str>> StoreAsk<T> {
     /// The bytes of this ask of the queue of that name.
     pub fn written(&self, queue: impl Display) -> Vec<u8> {
-        let mut out = Vec::with_capacity(MOST_BESIDE_TEXTS + self.length_of_texts());
+        let mut out = Vec::with_capacity(MOST_BYTES_BESIDE_TEXTS + self.length_of_texts());
         out.push(self.kind());
         append_name(&mut out, queue);
         match self {

@@ -18,7 +18,7 @@ pub mod written;
 pub use asks::{append_query, append_request, RequestName, StoreAsk, StoreEntry, StoreRequest};
 pub use fault::{BadFrame, Fault};
 pub use parts::{KeptHandings, Part, QueuePart};
-pub use reader::STORE_LIMIT;
+pub use reader::STORE_LIMIT_BYTES;
 pub use receipt::Receipt;
 pub use replies::{Delivery, StoreAnswer, StoreReply};
 pub use store::StoreReader;

@@ -7,17 +7,17 @@ use crate::characters::{is_of_xml, is_short_and_printable};
 use crate::moment::Moment;
 
 /// The longest text that the store takes as a body, in bytes of UTF-8.
-pub const STORE_LIMIT: usize = 262_144;
+pub const STORE_LIMIT_BYTES: usize = 262_144;
 
 /// The latest moment.
-const LATEST: u64 = 1 << 60;
+const LATEST: Moment = 1 << 60;
 
-const LONGEST_TIMEOUT: u32 = 43_200;
+const LONGEST_TIMEOUT_SECONDS: u32 = 43_200;
 
 /// The most messages that a receive asks for.
 const MOST_WANTED: u32 = 10;
 
-const LONGEST_NAME: usize = 80;
+const LONGEST_NAME_BYTES: usize = 80;
 
 /// What isn't read yet of some bytes.
 pub(super) struct ValueReader<'a>(&'a [u8]);
@@ -89,7 +89,7 @@ impl<'a> ValueReader<'a> {
     }
 
     pub(super) fn timeout(&mut self) -> Result<u32, Fault> {
-        self.number32().and_then(|timeout| at_most(timeout, LONGEST_TIMEOUT))
+        self.number32().and_then(|timeout| at_most(timeout, LONGEST_TIMEOUT_SECONDS))
     }
 
     pub(super) fn size(&mut self) -> Result<u32, Fault> {
@@ -123,7 +123,7 @@ impl<'a> ValueReader<'a> {
     }
 
     pub(super) fn body(&mut self) -> Result<&'a str, Fault> {
-        self.text(|text| (1..=STORE_LIMIT).contains(&text.len()) && is_of_xml(text))
+        self.text(|text| (1..=STORE_LIMIT_BYTES).contains(&text.len()) && is_of_xml(text))
     }
 }
 
@@ -134,6 +134,6 @@ fn at_most<T: PartialOrd>(number: T, most: T) -> Result<T, Fault> {
 /// Whether the store takes it as a queue's name.
 fn is_queue_name(text: &str) -> bool {
     let is_good = |byte: u8| byte.is_ascii_alphanumeric() || byte == b'-' || byte == b'_';
-    let stem = text.strip_suffix(".fifo").filter(|_| text.len() <= LONGEST_NAME);
+    let stem = text.strip_suffix(".fifo").filter(|_| text.len() <= LONGEST_NAME_BYTES);
     stem.is_some_and(|stem| !stem.is_empty() && stem.bytes().all(is_good))
 }

@@ -5,26 +5,33 @@ use tokio::io::{AsyncReadExt, AsyncWriteExt};
 use tokio::net::TcpListener;
 
 use super::*;
-use crate::certificates::{make, Wanted};
+use crate::certificates::{make, CertificateOptions};
 use crate::records::random_name;
 
 /// A folder of this test alone, with an authority.
-struct Folder(PathBuf);
+struct AuthorityFolder(PathBuf);
 
-impl Drop for Folder {
+impl Drop for AuthorityFolder {
     fn drop(&mut self) {
         let _ = std::fs::remove_dir_all(&self.0);
     }
 }
 
-fn wanted(folder: &Path, cluster: &str, roles: &[Role], name: Option<&str>) -> Wanted {
+fn wanted(folder: &Path, cluster: &str, roles: &[Role], name: Option<&str>) -> CertificateOptions {
     let name = name.map(String::from);
-    Wanted { cluster: cluster.into(), folder: folder.into(), role: roles.to_vec(), name, address: vec![], days: None }
+    CertificateOptions {
+        cluster: cluster.into(),
+        folder: folder.into(),
+        role: roles.to_vec(),
+        name,
+        address: vec![],
+        days: None,
+    }
 }
 
-impl Folder {
-    fn new() -> Folder {
-        let folder = Folder(std::env::temp_dir().join(format!("hobbychair-{}", random_name())));
+impl AuthorityFolder {
+    fn new() -> AuthorityFolder {
+        let folder = AuthorityFolder(std::env::temp_dir().join(format!("hobbychair-{}", random_name())));
         make(&wanted(&folder.0, "one", &[], None)).unwrap();
         folder
     }
@@ -62,12 +69,12 @@ fn sign(folder: &Path, name: &str, issuer: &str, extensions: &str) {
 
 /// The files of a node's certificate with which so many others come: each has signed the one before it, and the folder's
 /// authority the last.
-fn chained(folder: &Folder, others: usize, names: &[String]) -> IdentityFiles {
+fn chained(folder: &AuthorityFolder, others: usize, names: &[String]) -> IdentityFiles {
     chained_by(folder, others, names, "")
 }
 
 /// The same, where those that come with it have more extensions.
-fn chained_by(folder: &Folder, others: usize, names: &[String], more: &str) -> IdentityFiles {
+fn chained_by(folder: &AuthorityFolder, others: usize, names: &[String], more: &str) -> IdentityFiles {
     let mut issuers = vec!["authority".to_string()];
     for number in 0..others {
         let name = format!("{others}-{number}");
@@ -97,7 +104,7 @@ async fn meet(
     server: &Identity,
     role: Role,
     wanted: Option<Fingerprint>,
-) -> (Result<(), String>, Result<Peer, String>) {
+) -> (Result<(), String>, Result<PeerCertificate, String>) {
     let listener = TcpListener::bind("127.0.0.1:0").await.unwrap();
     let address = listener.local_addr().unwrap();
     let connects = async {
@@ -120,7 +127,7 @@ async fn meet(
 
 #[tokio::test]
 async fn both_ends_know_who_the_other_one_is() {
-    let folder = Folder::new();
+    let folder = AuthorityFolder::new();
     let node = folder.make("one", &[Role::Node], "node");
     let front = folder.make("one", &[Role::Front, Role::Master], "front");
     for wanted in [None, Some(node.fingerprint())] {
@@ -142,7 +149,7 @@ async fn both_ends_know_who_the_other_one_is() {
 
 #[tokio::test]
 async fn whoever_is_of_another_role_cluster_or_authority_is_not_believed() {
-    let (folder, strange) = (Folder::new(), Folder::new());
+    let (folder, strange) = (AuthorityFolder::new(), AuthorityFolder::new());
     let node = folder.make("one", &[Role::Node], "node");
     let etcd = folder.make("one", &[Role::Etcd], "etcd");
     let other = folder.make("two", &[Role::Node], "other");
@@ -165,8 +172,8 @@ async fn whoever_is_of_another_role_cluster_or_authority_is_not_believed() {
 }
 
 /// One who believes the authority, and has a certificate of another one.
-fn strange_client(folder: &Folder, strange: &Folder) -> Pems {
-    let read = |folder: &Folder, name: &str| Pem::read(&folder.0.join(name)).unwrap();
+fn strange_client(folder: &AuthorityFolder, strange: &AuthorityFolder) -> Pems {
+    let read = |folder: &AuthorityFolder, name: &str| Pem::read(&folder.0.join(name)).unwrap();
     Pems {
         certificate: read(strange, "node.pem"),
         key: read(strange, "node.key"),
@@ -176,7 +183,7 @@ fn strange_client(folder: &Folder, strange: &Folder) -> Pems {
 
 #[tokio::test]
 async fn two_others_come_with_a_certificate_and_no_more() {
-    let folder = Folder::new();
+    let folder = AuthorityFolder::new();
     let node = folder.make("one", &[Role::Node], "node");
     let names = [Role::Node.name("one")];
     let two = chained(&folder, 2, &names).identity("one", &[Role::Node]).unwrap().unwrap();
@@ -195,7 +202,7 @@ async fn two_others_come_with_a_certificate_and_no_more() {
 
 #[tokio::test]
 async fn certificates_of_many_names_are_not_looked_at() {
-    let folder = Folder::new();
+    let folder = AuthorityFolder::new();
     let node = folder.make("one", &[Role::Node], "node");
     let names = |count| {
         let others = (0..count).map(|number| format!("host-{number:04}.example.com"));
@@ -213,7 +220,7 @@ async fn certificates_of_many_names_are_not_looked_at() {
 
 #[tokio::test]
 async fn what_comes_with_a_certificate_constrains_no_names() {
-    let folder = Folder::new();
+    let folder = AuthorityFolder::new();
     let node = folder.make("one", &[Role::Node], "node");
     let permitted = "nameConstraints = critical,permitted;DNS:hobbychair.internal";
     let files = chained_by(&folder, 1, &[Role::Node.name("one")], permitted);
@@ -234,7 +241,7 @@ async fn are_refused(shown: &Identity, node: &Identity, why: &str) {
 
 #[tokio::test]
 async fn who_speaks_no_tls_is_told_from_who_goes() {
-    let folder = Folder::new();
+    let folder = AuthorityFolder::new();
     let node = folder.make("one", &[Role::Node], "node");
     for (sent, said) in [(&b"GET / HTTP/1.1\r\n\r\n"[..], Some("it doesn't speak TLS")), (b"", None)] {
         let listener = TcpListener::bind("127.0.0.1:0").await.unwrap();
@@ -251,7 +258,7 @@ async fn who_speaks_no_tls_is_told_from_who_goes() {
 
 #[test]
 fn an_own_certificate_that_others_would_refuse_is_told_at_the_start() {
-    let (folder, strange) = (Folder::new(), Folder::new());
+    let (folder, strange) = (AuthorityFolder::new(), AuthorityFolder::new());
     folder.make("one", &[Role::Front], "front");
     strange.make("one", &[Role::Front], "front");
     let said = |files: &IdentityFiles, cluster: &str, roles: &[Role]| {
@@ -274,9 +281,9 @@ fn an_own_certificate_that_others_would_refuse_is_told_at_the_start() {
 
 #[test]
 fn an_end_that_is_near_is_known() {
-    let folder = Folder::new();
+    let folder = AuthorityFolder::new();
     let later = folder.make("one", &[Role::Node], "later");
-    make(&Wanted { days: Some(2), ..wanted(&folder.0, "one", &[Role::Node], Some("soon")) }).unwrap();
+    make(&CertificateOptions { days: Some(2), ..wanted(&folder.0, "one", &[Role::Node], Some("soon")) }).unwrap();
     let soon = folder.files("soon").identity("one", &[Role::Node]).unwrap().unwrap();
     let ends = |identity: &Identity| [0, 1, 3].map(|days| identity.has_expired_in(days * DAY));
     assert_eq!((ends(&soon), ends(&later)), ([false, false, true], [false, false, false]));

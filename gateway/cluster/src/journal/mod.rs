@@ -17,14 +17,14 @@ use rustix::fs::{flock, FlockOperation};
 
 pub use reader::{find, Found, Unusable};
 pub use record::{Entry, Head, Known, Record, VERSION};
-pub use writer::{NewStore, Writer, Written, LONGEST_BATCH};
+pub use writer::{NewStore, Writer, Written, LONGEST_BATCH_BYTES};
 
 /// The name of a part of a journal has its number in so many digits at least.
 const DIGITS: usize = 6;
 
 /// The folder of one node's journal.
 #[derive(Clone, Debug, PartialEq, Eq)]
-pub struct Folder(pub PathBuf);
+pub struct JournalFolder(pub PathBuf);
 
 /// The journal is this process's for as long as this is kept.
 #[derive(Debug)]
@@ -32,10 +32,10 @@ pub struct Lock {
     _file: File,
 }
 
-impl Folder {
+impl JournalFolder {
     /// That of a server of a cluster's incarnation, among those of others.
-    pub fn of(journals: &Path, incarnation: &str, server: u32) -> Folder {
-        Folder(journals.join(format!("{incarnation}-{server}")))
+    pub fn of(journals: &Path, incarnation: &str, server: u32) -> JournalFolder {
+        JournalFolder(journals.join(format!("{incarnation}-{server}")))
     }
 
     /// The incarnation and the number of the server that a folder's name says.

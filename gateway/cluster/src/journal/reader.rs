@@ -9,7 +9,7 @@ use hobbychair_bytes::framing::{self, FileFrames};
 use hobbychair_bytes::parts::Reader;
 use thiserror::Error;
 
-use super::{Entry, Folder, Head, Known, Record, VERSION};
+use super::{Entry, Head, JournalFolder, Known, Record, VERSION};
 
 /// Bytes that were spoilt: something good is behind them.
 #[derive(Clone, Debug, PartialEq, Eq, Error)]
@@ -52,7 +52,7 @@ struct Segment {
 /// A journal that was found. Its head is that of the part with which it begins; it is durable where all parts are.
 #[derive(Clone, Debug)]
 pub struct Found {
-    pub folder: Folder,
+    pub folder: JournalFolder,
     pub head: Head,
     /// The store with which it begins, if it does.
     pub store: Option<PathBuf>,
@@ -73,15 +73,15 @@ pub struct Found {
 }
 
 /// The journals in a folder: that folder itself, or those in it. Others in it are passed over.
-pub fn find(path: &Path) -> io::Result<Vec<Folder>> {
-    if Folder::named(path).is_some() {
-        return Ok(vec![Folder(path.into())]);
+pub fn find(path: &Path) -> io::Result<Vec<JournalFolder>> {
+    if JournalFolder::named(path).is_some() {
+        return Ok(vec![JournalFolder(path.into())]);
     }
     let mut found = Vec::new();
     for entry in super::about(path, fs::read_dir(path))? {
         let path = entry?.path();
-        if path.is_dir() && Folder::named(&path).is_some() {
-            found.push(Folder(path));
+        if path.is_dir() && JournalFolder::named(&path).is_some() {
+            found.push(JournalFolder(path));
         }
     }
     found.sort_by(|one, other| one.0.cmp(&other.0));
@@ -90,7 +90,7 @@ pub fn find(path: &Path) -> io::Result<Vec<Folder>> {
 
 impl Found {
     /// Reads a journal from its begin to its end, and looks at each byte.
-    pub fn read(folder: &Folder) -> Result<Found, Unusable> {
+    pub fn read(folder: &JournalFolder) -> Result<Found, Unusable> {
         let store = folder.parts("store")?.last().copied();
         let parts = folder.parts("entries")?;
         let parts: Vec<u64> = parts.into_iter().filter(|part| store.map_or(true, |store| *part >= store)).collect();
@@ -110,7 +110,7 @@ impl Found {
         Ok(found)
     }
 
-    fn begin(folder: &Folder, store: Option<u64>, first: Option<u64>) -> Result<Found, Unusable> {
+    fn begin(folder: &JournalFolder, store: Option<u64>, first: Option<u64>) -> Result<Found, Unusable> {
         let (head, path, last) = match (store.map(|part| folder.store(part)), first) {
             (Some(path), _) => {
                 let (head, last) = read_store(&path)?;
@@ -127,7 +127,7 @@ impl Found {
             }
             (None, None) => return Err(Unusable::None(folder.0.clone())),
         };
-        if Folder::named(&folder.0) != Some((head.incarnation.clone(), head.server)) {
+        if JournalFolder::named(&folder.0) != Some((head.incarnation.clone(), head.server)) {
             return Err(Unusable::OtherJournal(folder.0.clone()));
         }
         let (base, known) = (if path.is_some() { head.count } else { 0 }, head.known.clone());

@@ -18,10 +18,10 @@ impl Drop for Room {
     }
 }
 
-fn room() -> (Room, Folder) {
+fn room() -> (Room, JournalFolder) {
     let room = Room(std::env::temp_dir().join(format!("hobbychair-journal-{}", random_name())));
     prepare(&room.0).unwrap();
-    let folder = Folder::of(&room.0, "0123456789abcdef", 2);
+    let folder = JournalFolder::of(&room.0, "0123456789abcdef", 2);
     folder.make().unwrap();
     (room, folder)
 }
@@ -56,19 +56,19 @@ fn chunk(count: u64) -> Bytes {
 }
 
 /// A journal that is written.
-struct Writing {
+struct WrittenJournal {
     writer: Writer,
     told: Receiver<Written>,
     count: u64,
     ticket: u64,
 }
 
-impl Writing {
-    fn begin(folder: &Folder, is_durable: bool) -> Writing {
+impl WrittenJournal {
+    fn begin(folder: &JournalFolder, is_durable: bool) -> WrittenJournal {
         let (tell, told) = channel();
         let tell = move |written| drop(tell.send(written));
         let writer = Writer::begin(folder.clone(), head(0), 1, is_durable, tell).unwrap();
-        Writing { writer, told, count: 0, ticket: 0 }
+        WrittenJournal { writer, told, count: 0, ticket: 0 }
     }
 
     /// So many entries as one batch.
@@ -105,8 +105,8 @@ fn expected(places: std::ops::RangeInclusive<u64>) -> Vec<Entry> {
     places.map(entry).collect()
 }
 
-fn written(folder: &Folder, batches: &[u64]) -> u64 {
-    let mut writing = Writing::begin(folder, false);
+fn written(folder: &JournalFolder, batches: &[u64]) -> u64 {
+    let mut writing = WrittenJournal::begin(folder, false);
     for entries in batches {
         writing.add(*entries);
         writing.wait();
@@ -176,7 +176,7 @@ proptest! {
 #[test]
 fn a_copy_takes_the_place_of_what_was_before_and_the_log_is_known_behind_it() {
     let (_room, folder) = room();
-    let mut writing = Writing::begin(&folder, true);
+    let mut writing = WrittenJournal::begin(&folder, true);
     let known = Known { chain: Some(Chain::first(3)), gone: [1].into() };
     writing.learn(&known);
     writing.add(5);
@@ -211,7 +211,7 @@ fn a_copy_takes_the_place_of_what_was_before_and_the_log_is_known_behind_it() {
 #[test]
 fn a_copy_that_is_let_go_of_leaves_all_as_it_was() {
     let (_room, folder) = room();
-    let mut writing = Writing::begin(&folder, false);
+    let mut writing = WrittenJournal::begin(&folder, false);
     writing.add(3);
     writing.writer.begin_store(3);
     writing.writer.add_chunk(chunk(3));
@@ -230,7 +230,7 @@ fn a_copy_that_is_let_go_of_leaves_all_as_it_was() {
 #[test]
 fn a_snapshot_takes_the_place_of_all_before_it() {
     let (_room, folder) = room();
-    let mut writing = Writing::begin(&folder, true);
+    let mut writing = WrittenJournal::begin(&folder, true);
     writing.ticket += 1;
     writing.count = 7;
     writing.writer.replace(7, vec![chunk(7)], writing.ticket);
@@ -244,7 +244,7 @@ fn a_snapshot_takes_the_place_of_all_before_it() {
 #[test]
 fn parts_of_another_journal_are_told_apart() {
     let (_room, folder) = room();
-    let mut writing = Writing::begin(&folder, false);
+    let mut writing = WrittenJournal::begin(&folder, false);
     writing.add(3);
     writing.writer.begin_store(3);
     writing.writer.let_go_of_store();
@@ -252,7 +252,7 @@ fn parts_of_another_journal_are_told_apart() {
     writing.wait();
     fs::copy(folder.entries(1), folder.entries(3)).unwrap();
     assert!(matches!(Found::read(&folder).unwrap_err(), Unusable::OtherJournal(path) if path == folder.entries(3)));
-    let other = Folder(folder.0.parent().unwrap().join("0123456789abcdef-3"));
+    let other = JournalFolder(folder.0.parent().unwrap().join("0123456789abcdef-3"));
     fs::rename(&folder.0, &other.0).unwrap();
     assert!(matches!(Found::read(&other).unwrap_err(), Unusable::OtherJournal(path) if path == other.0));
 }
@@ -269,7 +269,7 @@ fn a_folder_is_one_process_s() {
     assert_eq!(find(&room.0).unwrap(), std::slice::from_ref(&folder));
     assert_eq!(find(&folder.0).unwrap(), [folder]);
     for name in ["0123456789abcdef", "0123456789abcdef-02", "0123-2", "0123456789abcdeg-2"] {
-        assert_eq!(Folder::named(Path::new(name)), None, "{name}");
+        assert_eq!(JournalFolder::named(Path::new(name)), None, "{name}");
     }
 }
 

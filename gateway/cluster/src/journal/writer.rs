@@ -13,16 +13,16 @@ use std::time::Duration;
 use bytes::Bytes;
 use hobbychair_bytes::framing;
 
-use super::{Folder, Head, Known, Record};
+use super::{Head, JournalFolder, Known, Record};
 
 /// A batch with more bytes than this is given in several.
-pub const LONGEST_BATCH: usize = 1 << 20;
+pub const LONGEST_BATCH_BYTES: usize = 1 << 20;
 
 /// So many bytes are written at once.
-const MOST_WRITTEN: usize = 8 << 20;
+const MOST_WRITTEN_BYTES: usize = 8 << 20;
 
 /// A segment that has so many bytes is followed by another one.
-const SEGMENT: u64 = 64 << 20;
+const SEGMENT_BYTES: u64 = 64 << 20;
 
 /// So often a write to a full disk is tried again.
 const PAUSE: Duration = Duration::from_millis(500);
@@ -48,7 +48,7 @@ pub enum Written {
 }
 
 /// What the thread is given.
-enum Order {
+enum WriterOrder {
     Append(Batch),
     /// A store takes the place of all before it. Nothing goes on before it is there.
     Replace {
@@ -75,12 +75,12 @@ struct Batch {
 }
 
 /// Gives work to the thread. It ends once this is dropped.
-pub struct Writer(Sender<Order>);
+pub struct Writer(Sender<WriterOrder>);
 
 impl Writer {
     /// Begins the segment of that number in a folder. The thread calls `told`.
     pub fn begin(
-        folder: Folder,
+        folder: JournalFolder,
         head: Head,
         part: u64,
         is_durable: bool,
@@ -105,34 +105,34 @@ impl Writer {
 
     /// Appends records, ahead of which there are so many entries.
     pub fn append(&self, records: Vec<u8>, count: u64, known: Option<Known>, ticket: u64) {
-        self.give(Order::Append(Batch { records, count, known, ticket }));
+        self.give(WriterOrder::Append(Batch { records, count, known, ticket }));
     }
 
     /// A store of so many entries takes the place of all that was written.
     pub fn replace(&self, count: u64, chunks: Vec<Bytes>, ticket: u64) {
-        self.give(Order::Replace { count, chunks, ticket });
+        self.give(WriterOrder::Replace { count, chunks, ticket });
     }
 
     /// Begins a store of so many entries: all those that were given. Its chunks follow, one behind another.
     pub fn begin_store(&self, count: u64) {
-        self.give(Order::Begin { count });
+        self.give(WriterOrder::Begin { count });
     }
 
     pub fn add_chunk(&self, chunk: Bytes) {
-        self.give(Order::Chunk(chunk));
+        self.give(WriterOrder::Chunk(chunk));
     }
 
     /// The store is whole.
     pub fn end_store(&self) {
-        self.give(Order::End);
+        self.give(WriterOrder::End);
     }
 
     /// The store won't be whole.
     pub fn let_go_of_store(&self) {
-        self.give(Order::LetGo);
+        self.give(WriterOrder::LetGo);
     }
 
-    fn give(&self, order: Order) {
+    fn give(&self, order: WriterOrder) {
         // A thread that has ended has told why.
         let _ = self.0.send(order);
     }
@@ -185,7 +185,7 @@ pub struct NewStore {
 
 impl NewStore {
     /// Begins that which is ahead of all segments from `part` on.
-    pub fn begin(folder: &Folder, part: u64, head: &Head) -> io::Result<NewStore> {
+    pub fn begin(folder: &JournalFolder, part: u64, head: &Head) -> io::Result<NewStore> {
         Ok(NewStore { file: FrameFile::create(&folder.new_store(part), head, 1)?, part })
     }
 
@@ -195,7 +195,7 @@ impl NewStore {
     }
 
     /// The store gets its name. Tells its size.
-    pub fn end(mut self, folder: &Folder) -> io::Result<u64> {
+    pub fn end(mut self, folder: &JournalFolder) -> io::Result<u64> {
         self.file.append_record(&Record::End, false)?;
         self.file.file.sync_all()?;
         fs::rename(&self.file.path, folder.store(self.part))?;
@@ -206,7 +206,7 @@ impl NewStore {
 
 /// All that the thread has.
 struct Keeper<T> {
-    folder: Folder,
+    folder: JournalFolder,
     /// That of the next part, but for its count.
     head: Head,
     is_durable: bool,
@@ -221,7 +221,7 @@ struct Keeper<T> {
 }
 
 impl<T: FnMut(Written)> Keeper<T> {
-    fn keep(mut self, orders: &Receiver<Order>) {
+    fn keep(mut self, orders: &Receiver<WriterOrder>) {
         while let Ok(first) = orders.recv() {
             if let Err(error) = self.follow(first, orders) {
                 let why = format!("{}: {error}", self.folder.0.display());
@@ -231,12 +231,12 @@ impl<T: FnMut(Written)> Keeper<T> {
     }
 
     /// Does what is given by now.
-    fn follow(&mut self, first: Order, orders: &Receiver<Order>) -> io::Result<()> {
+    fn follow(&mut self, first: WriterOrder, orders: &Receiver<WriterOrder>) -> io::Result<()> {
         let (mut batches, mut size) = (Vec::new(), 0);
         let mut next = Some(first);
         while let Some(order) = next {
             match order {
-                Order::Append(batch) => {
+                WriterOrder::Append(batch) => {
                     size += batch.records.len();
                     batches.push(batch);
                 }
@@ -245,7 +245,7 @@ impl<T: FnMut(Written)> Keeper<T> {
                     self.keep_store(other)?;
                 }
             }
-            next = if size < MOST_WRITTEN { orders.try_recv().ok() } else { None };
+            next = if size < MOST_WRITTEN_BYTES { orders.try_recv().ok() } else { None };
         }
         self.commit(batches)
     }
@@ -253,7 +253,7 @@ impl<T: FnMut(Written)> Keeper<T> {
     fn commit(&mut self, batches: Vec<Batch>) -> io::Result<()> {
         let Some((first, last)) = batches.first().zip(batches.last()) else { return Ok(()) };
         let ticket = last.ticket;
-        if self.segment.end >= SEGMENT {
+        if self.segment.end >= SEGMENT_BYTES {
             self.roll(first.count)?;
         }
         let before = self.segment.end;
@@ -312,25 +312,25 @@ impl<T: FnMut(Written)> Keeper<T> {
         }
     }
 
-    fn keep_store(&mut self, order: Order) -> io::Result<()> {
+    fn keep_store(&mut self, order: WriterOrder) -> io::Result<()> {
         match order {
-            Order::Append(_) => {}
-            Order::Replace { count, chunks, ticket } => {
+            WriterOrder::Append(_) => {}
+            WriterOrder::Replace { count, chunks, ticket } => {
                 self.replace(count, &chunks)?;
                 (self.told)(Written::UpTo { ticket, bytes: self.bytes });
             }
-            Order::Begin { count } => {
+            WriterOrder::Begin { count } => {
                 self.roll(count)?;
                 self.behind = 0;
                 let begun = NewStore::begin(&self.folder, self.part, &self.head);
                 self.store = self.or_no_store(begun);
             }
-            Order::Chunk(chunk) => {
+            WriterOrder::Chunk(chunk) => {
                 let added = self.store.take().map(|mut store| store.add(chunk).map(|()| store));
                 self.store = added.and_then(|added| self.or_no_store(added));
                 (self.told)(Written::Chunk);
             }
-            Order::End => {
+            WriterOrder::End => {
                 let ended = self.store.take().map(|store| (store.part, store.end(&self.folder)));
                 if let Some((part, ended)) = ended {
                     if let Some(size) = self.or_no_store(ended) {
@@ -340,7 +340,7 @@ impl<T: FnMut(Written)> Keeper<T> {
                     }
                 }
             }
-            Order::LetGo => self.let_go(),
+            WriterOrder::LetGo => self.let_go(),
         }
         Ok(())
     }
@@ -383,7 +383,9 @@ impl<T: FnMut(Written)> Keeper<T> {
 
     /// What stands before a store is needed no more.
     fn forget_before(&self, part: u64) {
-        for (kind, path) in [("entries", Folder::entries as fn(&Folder, u64) -> PathBuf), ("store", Folder::store)] {
+        for (kind, path) in
+            [("entries", JournalFolder::entries as fn(&JournalFolder, u64) -> PathBuf), ("store", JournalFolder::store)]
+        {
             let before = self.folder.parts(kind).unwrap_or_default().into_iter().filter(|one| *one < part);
             for path in before.map(|one| path(&self.folder, one)) {
                 if let Err(error) = fs::remove_file(&path) {

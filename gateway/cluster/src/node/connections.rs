@@ -7,7 +7,7 @@ use std::sync::{Arc, Mutex};
 use std::time::{Duration, Instant};
 
 use bytes::Bytes;
-use hobbychair_bytes::parts::{Frames, FRAME_LIMIT};
+use hobbychair_bytes::parts::{Frames, FRAME_LIMIT_BYTES};
 use tokio::io::AsyncWrite;
 use tokio::net::{TcpListener, TcpStream};
 use tokio::sync::mpsc::{unbounded_channel, UnboundedReceiver, UnboundedSender};
@@ -17,10 +17,10 @@ use tokio::time::{sleep, timeout};
 use super::fronts::{self, MOST_FRONTS};
 use super::streams::Work;
 use super::{Event, Shared};
-use crate::identity::{Peer, Role};
+use crate::identity::{PeerCertificate, Role};
 use crate::lock;
 use crate::transport::{self, Reading, Writing};
-use crate::wire::{About, Frame, GREETING_LIMIT};
+use crate::wire::{About, Frame, GREETING_LIMIT_BYTES};
 
 /// A connection has so long to say whom it is about.
 const GREETING: Duration = Duration::from_secs(5);
@@ -44,7 +44,7 @@ const ACKNOWLEDGING: Duration = Duration::from_millis(5);
 const WRITING: Duration = Duration::from_secs(10);
 
 /// So many bytes may wait for a client that doesn't read.
-const MOST_WAITING: usize = 32 << 20;
+const MOST_WAITING_BYTES: usize = 32 << 20;
 
 /// So long accepting rests where the system has no more descriptors.
 const REST: Duration = Duration::from_millis(100);
@@ -91,7 +91,7 @@ pub struct Outlet {
 impl Outlet {
     /// To a client that speaks by frames. Whoever writes them takes their bytes from what waits.
     fn new(wants: std::ops::RangeInclusive<u32>, frames: UnboundedSender<Bytes>, waiting: Arc<AtomicUsize>) -> Outlet {
-        Outlet { wants, frames, waiting, most: MOST_WAITING, write: |frame| Some(frame.bytes()) }
+        Outlet { wants, frames, waiting, most: MOST_WAITING_BYTES, write: |frame| Some(frame.bytes()) }
     }
 
     /// To somebody else, who hears of frames by other bytes, of which so many may wait.
@@ -223,7 +223,7 @@ async fn serve(connection: TcpStream, stranger: Stranger, node: &Arc<Shared>) ->
         Err(error) => return Err(error),
     };
     drop(stranger);
-    let reading = reading.with_limit(FRAME_LIMIT);
+    let reading = reading.with_limit(FRAME_LIMIT_BYTES);
     if let Err(why) = peer.as_ref().map_or(Ok(()), |peer| peer.test(roles_for(&greeting))) {
         return turn_away(writing, why).await;
     }
@@ -265,7 +265,7 @@ fn roles_for(greeting: &Frame) -> &'static [Role] {
 /// A connection that has said whom it is about.
 struct Greeted {
     /// Who made it, where there are certificates.
-    peer: Option<Peer>,
+    peer: Option<PeerCertificate>,
     greeting: Frame,
     reading: Frames<Reading>,
     writing: Writing,
@@ -273,7 +273,7 @@ struct Greeted {
 
 async fn greet(connection: TcpStream, node: &Shared) -> io::Result<Greeted> {
     let (reading, writing, peer) = transport::accept(node.cluster.identity.as_deref(), connection).await?;
-    let mut reading = Frames::new(reading, GREETING_LIMIT);
+    let mut reading = Frames::new(reading, GREETING_LIMIT_BYTES);
     let greeting = read(reading.next().await?)?;
     Ok(Greeted { peer, greeting, reading, writing })
 }
@@ -293,7 +293,7 @@ fn test_about(node: &Shared, about: &About) -> Result<(), String> {
 fn test_link(
     node: &Shared,
     about: &About,
-    (from, nonce, peer): (u32, &str, Option<&Peer>),
+    (from, nonce, peer): (u32, &str, Option<&PeerCertificate>),
     to: u32,
 ) -> Result<bool, String> {
     test_about(node, about)?;
@@ -302,7 +302,7 @@ fn test_link(
     }
     match lock(&node.registrations).get(&from) {
         Some(registration) if registration.nonce != nonce => Err(format!("server {from} is another process")),
-        Some(registration) if registration.certificate != peer.map(Peer::fingerprint) => {
+        Some(registration) if registration.certificate != peer.map(PeerCertificate::fingerprint) => {
             Err(format!("server {from} was registered with another certificate"))
         }
         registration => Ok(registration.is_some()),

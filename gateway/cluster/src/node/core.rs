@@ -18,7 +18,7 @@ use super::peers::Peers;
 use super::streams::{Streams, Turn, Work};
 use super::trace::Trace;
 use super::{End, Event, Report, Shared};
-use crate::child::{Child, Told};
+use crate::child::{Child, ChildEvent};
 use crate::clock;
 use crate::journal::Written;
 use crate::link::Link;
@@ -92,7 +92,7 @@ enum Wait {
 }
 
 /// All that a node knows.
-pub struct Core {
+pub struct NodeCore {
     node: Arc<Shared>,
     child: Child,
     /// Frames for the server, which are given together.
@@ -131,16 +131,16 @@ pub struct Core {
     end: Option<End>,
 }
 
-impl Core {
+impl NodeCore {
     pub fn new(
         node: Arc<Shared>,
         child: Child,
         port: Option<Arc<gateway::Port>>,
         trace: Option<&Path>,
         keeping: Option<Keeping<Waits>>,
-    ) -> Result<Core> {
+    ) -> Result<NodeCore> {
         let gateway = Beside::new(node.id, port, node.pause());
-        Ok(Core {
+        Ok(NodeCore {
             node,
             child,
             frames: Vec::new(),
@@ -203,7 +203,7 @@ impl Core {
 
     fn happen(&mut self, event: Event) {
         match event {
-            Event::Told(Told::Responses(responses)) => {
+            Event::Told(ChildEvent::Responses(responses)) => {
                 self.told = Instant::now();
                 for response in responses {
                     self.hear(response);
@@ -212,7 +212,7 @@ impl Core {
                     }
                 }
             }
-            Event::Told(Told::Ended(why)) => self.fail(format!("cq server is gone: {why}")),
+            Event::Told(ChildEvent::Ended(why)) => self.fail(format!("cq server is gone: {why}")),
             Event::Learned(gone) => self.learn(&gone),
             Event::Linking { from, gone, reply } => {
                 self.learn(&gone);

@@ -26,7 +26,7 @@ const QUIET: Duration = Duration::from_secs(2);
 
 /// What a front says of gateways' ports.
 #[derive(Clone, Copy)]
-struct Said {
+struct FrontReach {
     head: u32,
     reaches_head: bool,
     reaches_this: bool,
@@ -35,7 +35,7 @@ struct Said {
 /// When each front was heard last, and what it said, by the number of its connection.
 #[derive(Default)]
 pub struct Fronts {
-    heard: Mutex<BTreeMap<u64, (Instant, Option<Said>)>>,
+    heard: Mutex<BTreeMap<u64, (Instant, Option<FrontReach>)>>,
 }
 
 impl Fronts {
@@ -48,13 +48,13 @@ impl Fronts {
     pub fn witnesses(&self, head: u32) -> Option<Witnesses> {
         let heard = lock(&self.heard);
         let in_contact = heard.values().filter(|(heard, _)| heard.elapsed() <= CONTACT);
-        let said: Vec<Said> = in_contact.filter_map(|(_, said)| said.filter(|said| said.head == head)).collect();
-        let count = |is_reached: fn(&Said) -> bool| said.iter().filter(|said| is_reached(said)).count();
+        let said: Vec<FrontReach> = in_contact.filter_map(|(_, said)| said.filter(|said| said.head == head)).collect();
+        let count = |is_reached: fn(&FrontReach) -> bool| said.iter().filter(|said| is_reached(said)).count();
         let (reach_head, reach_this) = (count(|said| said.reaches_head), count(|said| said.reaches_this));
         (!said.is_empty()).then_some(Witnesses { head, reach_head, reach_this })
     }
 
-    fn hear(&self, front: u64, said: Option<Said>) {
+    fn hear(&self, front: u64, said: Option<FrontReach>) {
         lock(&self.heard).insert(front, (Instant::now(), said));
     }
 }
@@ -77,7 +77,7 @@ async fn answer(node: &Shared, front: u64, reading: &mut Frames<Reading>, writin
     loop {
         let said = match read(timeout(QUIET, reading.next()).await??)? {
             Frame::Ping { .. } => None,
-            Frame::Reach { head, reaches_head, reaches_this } => Some(Said { head, reaches_head, reaches_this }),
+            Frame::Reach { head, reaches_head, reaches_this } => Some(FrontReach { head, reaches_head, reaches_this }),
             _ => return Err(other("a frame came that doesn't belong to a front")),
         };
         node.fronts.hear(front, said);
@@ -93,7 +93,7 @@ mod tests {
     fn what_fronts_say_counts_where_they_are_in_contact_and_mean_the_same_head() {
         let fronts = Fronts::default();
         let say = |front, head, reaches_head, reaches_this| {
-            fronts.hear(front, Some(Said { head, reaches_head, reaches_this }));
+            fronts.hear(front, Some(FrontReach { head, reaches_head, reaches_this }));
         };
         fronts.hear(1, None);
         assert_eq!((fronts.count(), fronts.witnesses(3)), (1, None));

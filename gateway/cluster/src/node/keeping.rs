@@ -12,7 +12,7 @@ use hobbychair_bytes::commands::Standing;
 use hobbychair_bytes::messages::Message;
 
 use super::Event;
-use crate::journal::{self, Entry, Folder, Head, Known, Record, Writer, Written, LONGEST_BATCH, VERSION};
+use crate::journal::{self, Entry, Head, JournalFolder, Known, Record, Writer, Written, LONGEST_BATCH_BYTES, VERSION};
 use crate::records::{Chain, Cluster, DISK_HANGS};
 
 /// A disk that ends no write for so long doesn't work.
@@ -20,7 +20,7 @@ const HANGING: Duration = Duration::from_secs(2);
 
 /// How a node keeps its journal.
 #[derive(Clone, Debug, PartialEq, Eq)]
-pub struct Settings {
+pub struct JournalSettings {
     /// The journals of this machine's nodes.
     pub folder: PathBuf,
     /// Whether what leaves waits for the disk.
@@ -42,7 +42,7 @@ pub enum Added {
 
 /// How far a copy of the store is that the journal is to have.
 #[derive(Clone, Copy, Debug, PartialEq, Eq)]
-enum Copying {
+enum JournalCopying {
     No,
     /// Its next chunk is asked for.
     Asked,
@@ -70,7 +70,7 @@ pub struct Keeping<W> {
     /// When the writer told something last, or was given something while it had nothing to do.
     moved: Instant,
     trouble: Option<String>,
-    copying: Copying,
+    copying: JournalCopying,
     /// The writer has begun a store for it.
     is_begun: bool,
     /// It is thrown away.
@@ -102,11 +102,11 @@ impl<W> Keeping<W> {
     pub fn begin(
         cluster: &Cluster,
         server: u32,
-        settings: &Settings,
+        settings: &JournalSettings,
         store: Option<u64>,
         tell: impl Fn(Event) + Send + 'static,
     ) -> std::io::Result<Keeping<W>> {
-        let folder = Folder::of(&settings.folder, &cluster.settings.incarnation, server);
+        let folder = JournalFolder::of(&settings.folder, &cluster.settings.incarnation, server);
         if store.is_none() {
             folder.make()?;
         }
@@ -128,7 +128,7 @@ impl<W> Keeping<W> {
             waiting: VecDeque::new(),
             moved: Instant::now(),
             trouble: None,
-            copying: Copying::No,
+            copying: JournalCopying::No,
             is_begun: false,
             is_abandoned: false,
             due: settings.size,
@@ -164,7 +164,7 @@ impl<W> Keeping<W> {
     pub fn add_entry(&mut self, entry: Entry) {
         Record::Entry(entry).write(&mut self.pending);
         self.count += 1;
-        if self.pending.len() >= LONGEST_BATCH {
+        if self.pending.len() >= LONGEST_BATCH_BYTES {
             self.flush();
         }
     }
@@ -249,8 +249,8 @@ impl<W> Keeping<W> {
                 self.bytes = bytes;
             }
             Written::Chunk => {
-                if self.copying == Copying::Writing {
-                    self.copying = Copying::Ready;
+                if self.copying == JournalCopying::Writing {
+                    self.copying = JournalCopying::Ready;
                 }
             }
             Written::Store { size, bytes } => {
@@ -299,20 +299,20 @@ impl<W> Keeping<W> {
             self.put_off_copy();
         }
         let is_next = match self.copying {
-            Copying::No => !others_need_one && self.bytes >= self.due && self.trouble.is_none(),
-            Copying::Writing => self.is_abandoned,
-            Copying::Ready => true,
-            Copying::Asked => false,
+            JournalCopying::No => !others_need_one && self.bytes >= self.due && self.trouble.is_none(),
+            JournalCopying::Writing => self.is_abandoned,
+            JournalCopying::Ready => true,
+            JournalCopying::Asked => false,
         };
         if is_next {
-            self.copying = Copying::Asked;
+            self.copying = JournalCopying::Asked;
         }
         is_next
     }
 
     /// Whether a copy is made that has to be asked for to its end.
     pub fn is_copying(&self) -> bool {
-        self.copying != Copying::No
+        self.copying != JournalCopying::No
     }
 
     /// The server tells the next chunk of a copy of so many entries, or an empty one behind the last.
@@ -331,9 +331,9 @@ impl<W> Keeping<W> {
             (false, false) => self.writer.add_chunk(chunk),
         }
         self.copying = match (self.is_abandoned, is_last) {
-            (_, true) => Copying::No,
-            (true, false) => Copying::Ready,
-            (false, false) => Copying::Writing,
+            (_, true) => JournalCopying::No,
+            (true, false) => JournalCopying::Ready,
+            (false, false) => JournalCopying::Writing,
         };
         if is_last {
             (self.is_begun, self.is_abandoned) = (false, false);
@@ -355,7 +355,7 @@ impl<W> Keeping<W> {
 
     /// The server refuses, and the copy is gone.
     pub fn not_copied(&mut self) {
-        self.copying = Copying::No;
+        self.copying = JournalCopying::No;
         (self.is_begun, self.is_abandoned) = (false, false);
         self.writer.let_go_of_store();
         self.put_off_copy();
@@ -392,7 +392,7 @@ mod tests {
     fn begin(size: u64) -> Tested {
         let room = std::env::temp_dir().join(format!("hobbychair-keeping-{}", random_name()));
         std::fs::create_dir(&room).unwrap();
-        let settings = records::Settings {
+        let settings = records::ClusterSettings {
             version: records::VERSION,
             incarnation: "0123456789abcdef".into(),
             servers: 3,
@@ -402,7 +402,7 @@ mod tests {
         let etcd = Etcd::new(&["http://127.0.0.1:1".into()], None).unwrap();
         let cluster = Cluster { name: "tested".into(), etcd, settings, keys: Keys::for_tests(), identity: None };
         let (tell, told) = channel();
-        let settings = Settings { folder: room.clone(), is_durable: false, size, reserve: 0 };
+        let settings = JournalSettings { folder: room.clone(), is_durable: false, size, reserve: 0 };
         let keeping = Keeping::begin(&cluster, 2, &settings, None, move |event| drop(tell.send(event))).unwrap();
         Tested { room, keeping, told }
     }

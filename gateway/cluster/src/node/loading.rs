@@ -6,7 +6,7 @@ use hobbychair_bytes::commands::{Command, Response, Standing};
 use tokio::sync::mpsc::UnboundedReceiver;
 
 use super::Event;
-use crate::child::{Child, Told};
+use crate::child::{Child, ChildEvent};
 use crate::journal::Found;
 
 /// Gives the server the store of a journal, before it is given anything else. Says where it stands then.
@@ -30,12 +30,12 @@ async fn give(child: &Child, heard: &mut UnboundedReceiver<Event>, chunk: Bytes)
     child.give(Command::Load(chunk).frame());
     while let Some(event) = heard.recv().await {
         match event {
-            Event::Told(Told::Responses(responses)) => match responses.as_slice() {
+            Event::Told(ChildEvent::Responses(responses)) => match responses.as_slice() {
                 [Response::Heard] => return Ok(None),
                 [Response::Done(standing)] => return Ok(Some(*standing)),
                 other => bail!("cq server doesn't take the store: it tells {other:?}"),
             },
-            Event::Told(Told::Ended(why)) => bail!("cq server doesn't take the store: {why}"),
+            Event::Told(ChildEvent::Ended(why)) => bail!("cq server doesn't take the store: {why}"),
             _ => {}
         }
     }

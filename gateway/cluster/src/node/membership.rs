@@ -10,7 +10,7 @@ use tokio::time::{sleep, timeout};
 
 use crate::clock::since_start;
 use crate::contact::Contact;
-use crate::etcd::{Entry, Guard, Operation, SOON};
+use crate::etcd::{Guard, KeyValue, Operation, SOON};
 use crate::records::{self, last_number, Beat, Chain, Piece, Registration, Replaced};
 use crate::{lock, memory};
 
@@ -243,7 +243,7 @@ impl Membership {
     }
 
     /// The messages of the master that weren't read before, in order.
-    fn new_orders(&mut self, found: &[Entry]) -> Result<Vec<(u64, Bytes)>> {
+    fn new_orders(&mut self, found: &[KeyValue]) -> Result<Vec<(u64, Bytes)>> {
         let mut orders = Vec::new();
         let mut next = self.next_order;
         for entry in found {
@@ -259,7 +259,7 @@ impl Membership {
 }
 
 /// The servers whose disks have too little room, by their beats.
-fn short_of_disk(beats: &[Entry]) -> Result<BTreeSet<u32>> {
+fn short_of_disk(beats: &[KeyValue]) -> Result<BTreeSet<u32>> {
     let mut short = BTreeSet::new();
     for entry in beats {
         let beat: Beat = records::value(entry)?;

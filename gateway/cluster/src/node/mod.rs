@@ -29,15 +29,15 @@ use tokio::sync::mpsc::{unbounded_channel, UnboundedSender};
 use tokio::sync::{oneshot, Notify, Semaphore};
 
 use self::connections::{Linked, Outlet};
-use self::core::Core;
+use self::core::NodeCore;
 use self::fronts::Fronts;
 use self::keeping::Keeping;
 use self::streams::Work;
 use crate::addresses::{test_here, Place};
-use crate::child::{Child, Told};
+use crate::child::{Child, ChildEvent};
 use crate::clock::{self, Clock};
 use crate::etcd::{Guard, Operation};
-use crate::journal::{self, Folder, Written};
+use crate::journal::{self, JournalFolder, Written};
 use crate::records::{self, random_name, Chain, Cluster, Disk, JournalKind, Pause, Readiness, Registration};
 use crate::suspension::Suspension;
 use crate::wire::{About, Frame};
@@ -56,15 +56,15 @@ pub enum Beginning {
 }
 
 /// What a node is told at its start.
-pub struct Settings {
+pub struct NodeSettings {
     pub place: Place,
     pub beginning: Beginning,
     pub program: String,
     /// The gateway beside it, if it has one.
-    pub gateway: Option<gateway::Settings>,
+    pub gateway: Option<gateway::GatewaySettings>,
     pub limits: Limits,
     /// The journal that it keeps, if it keeps one.
-    pub journal: Option<keeping::Settings>,
+    pub journal: Option<keeping::JournalSettings>,
     /// A file for all that the server was told and told, for tests.
     pub trace: Option<PathBuf>,
 }
@@ -105,7 +105,7 @@ impl fmt::Display for End {
 /// What happens at a node. One task hears of all of it, in order.
 pub enum Event {
     /// The server tells something.
-    Told(Told),
+    Told(ChildEvent),
     /// These servers were detected, somebody says.
     Learned(Vec<u32>),
     /// Another node begins a connection of its link.
@@ -144,7 +144,7 @@ pub struct Report {
     pub condemned: Option<&'static str>,
     /// One that joins is to be given up, since too much waits for it.
     pub late_joiner: Option<u32>,
-    pub gateway: gateway::Said,
+    pub gateway: gateway::GatewayBeat,
     /// A gateway is kept, so there is a process of one, or will be soon.
     pub keeps_gateway: bool,
 }
@@ -247,7 +247,7 @@ impl Shared {
 }
 
 /// Runs a node until the log says that it ends, or it fails.
-pub async fn run(cluster: Cluster, settings: Settings) -> Result<End> {
+pub async fn run(cluster: Cluster, settings: NodeSettings) -> Result<End> {
     let has_certificates = cluster.identity.is_some();
     let gateway = match &settings.gateway {
         Some(gateway) => Some(find_gateway(&gateway.place, has_certificates).await?),
@@ -277,7 +277,7 @@ pub async fn run(cluster: Cluster, settings: Settings) -> Result<End> {
     let address = settings.place.found_at(local, "a node", "--advertise", has_certificates).await?;
     let nonce = random_name();
     let certificate = cluster.identity.as_ref().map(|identity| identity.fingerprint());
-    let kind = |journal: &keeping::Settings| match journal.is_durable {
+    let kind = |journal: &keeping::JournalSettings| match journal.is_durable {
         true => JournalKind::Durable,
         false => JournalKind::Buffered,
     };
@@ -327,7 +327,7 @@ pub async fn run(cluster: Cluster, settings: Settings) -> Result<End> {
     if let Some(port) = &port {
         tokio::spawn(gateway::trial::keep(node.clone(), port.clone()));
     }
-    let core = Core::new(node.clone(), child, port, settings.trace.as_deref(), keeping)?;
+    let core = NodeCore::new(node.clone(), child, port, settings.trace.as_deref(), keeping)?;
     for kind in [SignalKind::terminate(), SignalKind::interrupt()] {
         tokio::spawn(hear_signals(signal(kind)?, node.clone()));
     }
@@ -354,7 +354,7 @@ fn begin_time(loaded: Option<&Standing>) -> (Clock, Option<Pause>) {
 
 /// The journal with which the node begins, where the cluster was recovered. Without it, nothing of what was recovered would be
 /// there.
-fn find_store(cluster: &Cluster, settings: &Settings) -> Result<Option<journal::Found>> {
+fn find_store(cluster: &Cluster, settings: &NodeSettings) -> Result<Option<journal::Found>> {
     if let Some(journal) = &settings.journal {
         journal::prepare(&journal.folder).context("journals can't be kept")?;
     }
@@ -364,7 +364,7 @@ fn find_store(cluster: &Cluster, settings: &Settings) -> Result<Option<journal::
     let Some(journal) = &settings.journal else {
         bail!("this cluster was recovered: give the --journal that hobbychair cluster recover wrote to");
     };
-    let folder = Folder::of(&journal.folder, &cluster.settings.incarnation, server);
+    let folder = JournalFolder::of(&journal.folder, &cluster.settings.incarnation, server);
     let found = journal::Found::read(&folder)
         .context("this cluster was recovered, and its server begins with what hobbychair cluster recover wrote")?;
     let is_it = found.base == recovered.count && found.count == found.base && found.store.is_some();
@@ -386,7 +386,7 @@ async fn find_gateway(place: &Place, has_certificates: bool) -> Result<SocketAdd
     place.found_at(listen, "its gateway", "--advertise-gateway", has_certificates).await
 }
 
-fn start_child(cluster: &Cluster, id: u32, settings: &Settings, events: UnboundedSender<Event>) -> Result<Child> {
+fn start_child(cluster: &Cluster, id: u32, settings: &NodeSettings, events: UnboundedSender<Event>) -> Result<Child> {
     let mut words = vec!["server".to_string(), "--id".into(), id.to_string()];
     match settings.beginning {
         Beginning::First(_) => {

@@ -14,7 +14,7 @@ use tokio::time::{sleep_until, Instant};
 
 use crate::etcd::{Etcd, Guard};
 use crate::identity::Identity;
-use crate::journal::{self, Folder, Head, Known, VERSION};
+use crate::journal::{self, Head, JournalFolder, Known, VERSION};
 use crate::records::{self, random_name, Cluster, Recovered};
 use crate::say;
 
@@ -25,11 +25,11 @@ use self::processes::Processes;
 const LOOK: Duration = Duration::from_millis(1200);
 
 /// No recovery is done in a shorter time. A node that goes on beats within it; and one that doesn't since it stands still does so
-/// for so long, but for a beat's period, that it knows of it ([`suspension::STILL`](crate::suspension::STILL)).
+/// for so long, but for a beat's period, that it knows of it ([`suspension::STILL_MILLISECONDS`](crate::suspension::STILL_MILLISECONDS)).
 const SHORTEST: Duration = Duration::from_millis(2500);
 
 /// What is asked for.
-pub struct Wanted {
+pub struct RecoverySettings {
     pub cluster: String,
     pub etcd: Vec<String>,
     pub identity: Option<Arc<Identity>>,
@@ -50,7 +50,7 @@ pub struct Wanted {
 }
 
 /// Makes a new cluster of the journals. Nothing of these is changed. An error says why nothing was done.
-pub async fn recover(wanted: &Wanted) -> Result<()> {
+pub async fn recover(wanted: &RecoverySettings) -> Result<()> {
     let begun = Instant::now();
     let etcd = Etcd::new(&wanted.etcd, wanted.identity.clone())?;
     let there = Cluster::find_any(&wanted.cluster, etcd.clone(), wanted.identity.clone()).await?;
@@ -92,7 +92,7 @@ pub async fn recover(wanted: &Wanted) -> Result<()> {
 }
 
 /// What etcd says of a cluster none of whose processes goes on, as far as that can be found out, or as whoever asks knows.
-async fn find_stopped(wanted: &Wanted, cluster: &Cluster) -> Result<Processes> {
+async fn find_stopped(wanted: &RecoverySettings, cluster: &Cluster) -> Result<Processes> {
     let processes = Processes::find(cluster).await?;
     processes.say();
     if wanted.is_fenced {
@@ -109,10 +109,10 @@ async fn find_stopped(wanted: &Wanted, cluster: &Cluster) -> Result<Processes> {
 }
 
 /// Writes the journal of the new cluster's server, and then the cluster, not before that moment.
-async fn make(wanted: &Wanted, plan: &Plan, etcd: Etcd, guards: &[Guard], earliest: Instant) -> Result<()> {
+async fn make(wanted: &RecoverySettings, plan: &Plan, etcd: Etcd, guards: &[Guard], earliest: Instant) -> Result<()> {
     let taken = plan.taken();
     let recovered = Recovered { incarnation: plan.incarnation.clone(), count: taken.count };
-    let settings = records::Settings {
+    let settings = records::ClusterSettings {
         version: records::VERSION,
         incarnation: random_name(),
         servers: 1,
@@ -120,7 +120,7 @@ async fn make(wanted: &Wanted, plan: &Plan, etcd: Etcd, guards: &[Guard], earlie
         recovered: Some(recovered),
     };
     journal::prepare(&wanted.journal)?;
-    let folder = Folder::of(&wanted.journal, &settings.incarnation, 1);
+    let folder = JournalFolder::of(&wanted.journal, &settings.incarnation, 1);
     folder.make()?;
     let head = Head {
         version: VERSION,

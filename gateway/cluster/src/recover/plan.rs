@@ -5,7 +5,7 @@ use std::path::PathBuf;
 
 use anyhow::{bail, Context, Result};
 
-use crate::journal::{self, Folder, Found, Unusable};
+use crate::journal::{self, Found, JournalFolder, Unusable};
 use crate::records::Chain;
 use crate::say;
 
@@ -30,8 +30,8 @@ impl Sources {
         Ok(sources)
     }
 
-    fn add(&mut self, folder: &Folder) -> Result<()> {
-        let key = Folder::named(&folder.0).context("a journal has no name")?;
+    fn add(&mut self, folder: &JournalFolder) -> Result<()> {
+        let key = JournalFolder::named(&folder.0).context("a journal has no name")?;
         if folder.is_in_use() {
             bail!("{} is in use: stop its node first", folder.0.display());
         }

@@ -18,12 +18,12 @@ use tokio::net::TcpStream;
 use tokio::task::JoinSet;
 use tokio::time::{sleep, timeout, Instant};
 
-use crate::etcd::{Entry, Guard, Operation};
+use crate::etcd::{Guard, KeyValue, Operation};
 use crate::identity::Role;
 use crate::records::{self, last_number, Beat, Chain, Cluster, Registration};
 use crate::say;
 use crate::transport;
-use crate::wire::{About, Frame, GREETING_LIMIT};
+use crate::wire::{About, Frame, GREETING_LIMIT_BYTES};
 
 /// Somebody has so long to take a connection, and to answer.
 const PATIENCE: Duration = Duration::from_secs(3);
@@ -50,7 +50,7 @@ impl Processes {
             Operation::all(&keys.nodes()),
             Operation::all(&keys.all_detected()),
         ];
-        let [chain, beats, nodes, detected]: [Vec<Entry>; 4] =
+        let [chain, beats, nodes, detected]: [Vec<KeyValue>; 4] =
             cluster.read(&all).await?.try_into().ok().context("etcd answers with too little")?;
         let chain = records::value(chain.first().context("the cluster has no chain")?)?;
         let (mut said, mut registered) = (BTreeMap::new(), BTreeMap::new());
@@ -187,7 +187,7 @@ async fn greet(mut stream: TcpStream, cluster: &Cluster) -> io::Result<()> {
     let mut greeting = Frame::Front { about }.bytes();
     greeting.extend(Frame::Ping { time: 0 }.bytes());
     transport::write(&mut stream, &greeting).await?;
-    let answer = Frames::new(stream, GREETING_LIMIT).next().await?;
+    let answer = Frames::new(stream, GREETING_LIMIT_BYTES).next().await?;
     Frame::read(answer).map(drop).map_err(|malformed| io::Error::new(io::ErrorKind::InvalidData, malformed))
 }
 

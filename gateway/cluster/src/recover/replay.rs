@@ -7,22 +7,22 @@ use bytes::Bytes;
 use hobbychair_bytes::commands::{Command, Response, Standing};
 use tokio::sync::mpsc::{unbounded_channel, UnboundedReceiver};
 
-use crate::child::{Child, Told};
-use crate::journal::{self, Folder, Found, Head};
+use crate::child::{Child, ChildEvent};
+use crate::journal::{self, Found, Head, JournalFolder};
 
 /// So many requests are on their way to the server.
 const MOST_OPEN: usize = 512;
 
 /// A server that is the only one of its chain.
-struct Server {
+struct ReplayServer {
     child: Child,
-    told: UnboundedReceiver<Told>,
+    told: UnboundedReceiver<ChildEvent>,
     responses: VecDeque<Response>,
 }
 
 /// Writes the store of a journal as the first part of another one.
-pub async fn write(found: &Found, program: &str, folder: &Folder, head: &Head) -> Result<()> {
-    let mut server = Server::start(program, found.store.is_some())?;
+pub async fn write(found: &Found, program: &str, folder: &JournalFolder, head: &Head) -> Result<()> {
+    let mut server = ReplayServer::start(program, found.store.is_some())?;
     let begun = server.load(found).await?;
     ensure!(begun.count == found.base, "cq server has {} entries, and the copy is made of {}", begun.count, found.base);
     let standing = server.replay(found, begun).await?;
@@ -42,13 +42,13 @@ pub async fn write(found: &Found, program: &str, folder: &Folder, head: &Head) -
     Ok(())
 }
 
-impl Server {
-    fn start(program: &str, has_store: bool) -> Result<Server> {
+impl ReplayServer {
+    fn start(program: &str, has_store: bool) -> Result<ReplayServer> {
         let mut words: Vec<String> = ["server", "--id", "1", "--first", "1"].map(String::from).to_vec();
         words.extend(has_store.then(|| "--load".into()));
         let (tell, told) = unbounded_channel();
         let child = Child::start(program, &words, move |one| drop(tell.send(one)))?;
-        Ok(Server { child, told, responses: VecDeque::new() })
+        Ok(ReplayServer { child, told, responses: VecDeque::new() })
     }
 
     fn give(&self, command: &Command) {
@@ -61,8 +61,8 @@ impl Server {
                 return Ok(response);
             }
             match self.told.recv().await.context("cq server is gone")? {
-                Told::Responses(responses) => self.responses.extend(responses),
-                Told::Ended(why) => bail!("cq server is gone: {why}"),
+                ChildEvent::Responses(responses) => self.responses.extend(responses),
+                ChildEvent::Ended(why) => bail!("cq server is gone: {why}"),
             }
         }
     }

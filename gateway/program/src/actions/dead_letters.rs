@@ -53,7 +53,7 @@ impl Actions {
         caller: &Caller,
     ) -> Result<Performed, SqsError> {
         self.queue(name)?;
-        let count = most.unwrap_or(super::LONGEST_PAGE) as usize;
+        let count = most.unwrap_or(super::MOST_LISTED_QUEUES) as usize;
         let mut names = Vec::new();
         for queue in self.store.queues().all() {
             let sees = caller.identity.as_ref().map_or(true, |identity| identity.sees(&queue.name));

@@ -2,7 +2,7 @@
 
 use std::sync::Arc;
 
-use hobbychair_sqs::attributes::LONGEST_MESSAGE;
+use hobbychair_sqs::attributes::LONGEST_MESSAGE_BYTES;
 use hobbychair_sqs::digests::{md5_of_attributes, md5_of_text};
 use hobbychair_sqs::envelope::{message_id, Envelope, MessageAttributes, Metadata, TRACE_HEADER};
 use hobbychair_sqs::errors::SqsError;
@@ -41,8 +41,8 @@ impl Actions {
         let queue = self.queue(name)?;
         // An entry that isn't good counts nothing, and is told of its own.
         let size: usize = batch.iter().filter_map(|(_, entry)| Some(entry.as_ref().ok()?.size())).sum();
-        if size > LONGEST_MESSAGE {
-            return Err(SqsError::BatchRequestTooLong { limit: LONGEST_MESSAGE, sent: size });
+        if size > LONGEST_MESSAGE_BYTES {
+            return Err(SqsError::BatchRequestTooLong { limit: LONGEST_MESSAGE_BYTES, sent: size });
         }
         let operation_of = |id: &str, message: &NewMessage| self.sending(&queue, Some(id), message, caller);
         let result_of = |message: &NewMessage, answer: Answer| sent(&queue, message, &answer?).map(Some);

@@ -97,7 +97,7 @@ impl Owner {
 }
 
 /// The longest page of a list of queues.
-const LONGEST_PAGE: u32 = 1000;
+const MOST_LISTED_QUEUES: u32 = 1000;
 
 /// How many locks all names share.
 const LOCKS: usize = 64;

@@ -13,13 +13,13 @@ use hobbychair_tables::ask::{Outcome, TableChange};
 use hobbychair_tables::book::QueueEntry;
 use hobbychair_tables::queue::Queue;
 
-use super::{Actions, Caller, Pauses, Performed, LONGEST_PAGE};
+use super::{Actions, Caller, Pauses, Performed, MOST_LISTED_QUEUES};
 use crate::work::book;
 use crate::work::delays::bring_up_to_date;
 use crate::work::purges::purge;
 
 /// So long a queue can't be purged again, in milliseconds (API Reference, PurgeQueue, `PurgeQueueInProgress`).
-const PURGE_PAUSE: u64 = 60_000;
+const PURGE_PAUSE_MILLISECONDS: u64 = 60_000;
 
 impl Actions {
     pub(super) async fn create(
@@ -68,7 +68,7 @@ impl Actions {
     }
 
     pub(super) fn list(&self, prefix: &str, most: Option<u32>, after: &str, caller: &Caller) -> Performed {
-        let count = most.unwrap_or(LONGEST_PAGE) as usize;
+        let count = most.unwrap_or(MOST_LISTED_QUEUES) as usize;
         let sees = |name: &QueueName| caller.identity.as_ref().map_or(true, |identity| identity.sees(name));
         let (names, has_more) = self.store.queues().page(prefix, after, count, sees);
         let last = names.last().map(|name| token_behind(name.as_str()));
@@ -157,7 +157,7 @@ impl Actions {
         if removed {
             return Err(SqsError::QueueDoesNotExist);
         }
-        let is_early = purged.is_some_and(|purged| now < purged + PURGE_PAUSE);
+        let is_early = purged.is_some_and(|purged| now < purged + PURGE_PAUSE_MILLISECONDS);
         if is_early && self.pauses == Pauses::AsSqs {
             return Err(SqsError::PurgeQueueInProgress { queue: name.to_string() });
         }

@@ -6,7 +6,6 @@ use std::time::Duration;
 use bytes::Bytes;
 use hobbychair_cluster::acting::Follower;
 use hobbychair_cluster::condition::Condition;
-use hyper::header::{HeaderValue, CONTENT_TYPE};
 use hyper::{Body, Method, Request, Response, StatusCode};
 use prometheus::{
     Encoder, Gauge, Histogram, HistogramOpts, IntCounter, IntCounterVec, IntGauge, Opts, Registry, TextEncoder,
@@ -14,8 +13,8 @@ use prometheus::{
 use tokio::time::Instant;
 
 use super::contact::Contact;
-use crate::metrics::{Metrics, SECONDS};
-use crate::operators::admin::text;
+use crate::metrics::SECONDS;
+use crate::operators::admin::{metrics, text};
 
 /// The metrics of a front.
 pub struct Figures {
@@ -120,7 +119,7 @@ impl Operators {
                 None => text(StatusCode::OK, format!("serving by the gateway of server {acting}\n")),
                 Some(why) => text(StatusCode::SERVICE_UNAVAILABLE, format!("waiting: {why}\n")),
             },
-            "/metrics" => self.metrics(acting),
+            "/metrics" => metrics(self.figures.text(acting, &self.follower.condition())),
             _ => text(StatusCode::NOT_FOUND, "There are /health and /metrics here.\n".into()),
         }
     }
@@ -138,18 +137,6 @@ impl Operators {
             (server, Some(why), Some(away)) => {
                 Some(format!("neither the gateway of server {server} answers ({why}) nor etcd ({away})"))
             }
-        }
-    }
-
-    fn metrics(&self, acting: u32) -> Response<Bytes> {
-        match self.figures.text(acting, &self.follower.condition()) {
-            Ok(told) => {
-                let mut response = Response::new(Bytes::from(told));
-                let content_type = HeaderValue::from_static(Metrics::content_type());
-                response.headers_mut().insert(CONTENT_TYPE, content_type);
-                response
-            }
-            Err(error) => text(StatusCode::INTERNAL_SERVER_ERROR, format!("{error}\n")),
         }
     }
 }

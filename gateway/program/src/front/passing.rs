@@ -23,7 +23,7 @@ use super::headers::{as_answered, room_needed, time_of, Asked, Try};
 use super::operators::Figures;
 use super::streams::Streams;
 use super::times::{milliseconds, Times};
-use crate::calls::LONGEST_BODY;
+use crate::calls::LONGEST_BODY_BYTES;
 
 /// A request is asked again until so long after it came.
 const ASKING: Duration = Duration::from_secs(20);
@@ -50,10 +50,10 @@ const TELLING: Duration = Duration::from_secs(2);
 const IDLE: Duration = Duration::from_secs(30);
 
 /// No answer is longer: ten messages in JSON have less.
-pub const LONGEST_ANSWER: usize = 64 << 20;
+pub const LONGEST_ANSWER_BYTES: usize = 64 << 20;
 
 /// A receive is passed on with room for so many bytes of its answer at first.
-const FIRST_ROOM: usize = 16 << 10;
+const FIRST_ROOM_BYTES: usize = 16 << 10;
 
 /// Why a try came to nothing.
 #[derive(Debug, Error)]
@@ -218,7 +218,7 @@ impl Passing {
         let mut is_again = false;
         let mut room = AnswerRoom { share, asked: asked.bytes(), kept: None };
         if receives {
-            room.keep(FIRST_ROOM)?;
+            room.keep(FIRST_ROOM_BYTES)?;
         }
         loop {
             let acting = self.follower.acting();
@@ -281,7 +281,7 @@ impl Passing {
         room: &AnswerRoom<'_>,
         Wanted { until, is_again, room: kept }: Wanted,
     ) -> Result<Response<Bytes>, Failed> {
-        let stream = if asked.bytes() <= LONGEST_BODY { self.streams.to(acting).await? } else { None };
+        let stream = if asked.bytes() <= LONGEST_BODY_BYTES { self.streams.to(acting).await? } else { None };
         let until = self.until(acting, until).await?;
         let tried = Try { until, is_again, room: kept };
         let has_room = |bytes| room.has(bytes);
@@ -339,7 +339,7 @@ impl Passing {
         let mut whole = BytesMut::new();
         while let Some(piece) = body.data().await {
             whole.extend_from_slice(&piece?);
-            if whole.len() > LONGEST_ANSWER {
+            if whole.len() > LONGEST_ANSWER_BYTES {
                 return Err(Failed::TooLong);
             }
             if !has_room(whole.len()) {

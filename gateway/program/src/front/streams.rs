@@ -20,9 +20,9 @@ use tokio::sync::{oneshot, Notify};
 use tokio::time::{interval, timeout, Instant, MissedTickBehavior};
 
 use super::headers::{time_of, Asked, Said};
-use super::passing::{Failed, LONGEST_ANSWER};
+use super::passing::{Failed, LONGEST_ANSWER_BYTES};
 use super::times::Times;
-use crate::calls::{self, FromGateway, FRAME_LIMIT, PROTOCOL};
+use crate::calls::{self, FromGateway, FRAME_LIMIT_BYTES, PROTOCOL};
 
 /// A connection of calls has so long to begin.
 const BEGINNING: Duration = Duration::from_secs(2);
@@ -40,7 +40,7 @@ const WRITING: Duration = Duration::from_secs(2);
 const UNACKNOWLEDGED: Duration = Duration::from_secs(2);
 
 /// So much is written at once, and one call more. So much room is kept for it, too.
-const MOST_WRITTEN: usize = 256 << 10;
+const MOST_WRITTEN_BYTES: usize = 256 << 10;
 
 /// A gateway that has no connections of calls is asked for one again so much later.
 const WITHOUT: Duration = Duration::from_secs(10);
@@ -49,13 +49,13 @@ const WITHOUT: Duration = Duration::from_secs(10);
 pub struct Streams {
     connector: Connector,
     times: Arc<Times>,
-    current: Mutex<Current>,
+    current: Mutex<CurrentStream>,
     /// Held by who opens one.
     opening: tokio::sync::Mutex<()>,
 }
 
 #[derive(Clone, Default)]
-enum Current {
+enum CurrentStream {
     #[default]
     Unknown,
     Open(Acting, Arc<Stream>),
@@ -65,19 +65,19 @@ enum Current {
     Failed(Acting, Instant),
 }
 
-impl Current {
+impl CurrentStream {
     /// What is known of a gateway, if anything is.
     fn of(&self, acting: Acting) -> Option<Option<Arc<Stream>>> {
         match self {
-            Current::Open(known, stream) if *known == acting && !stream.is_over() => Some(Some(stream.clone())),
-            Current::Without(known, since) if *known == acting && since.elapsed() < WITHOUT => Some(None),
+            CurrentStream::Open(known, stream) if *known == acting && !stream.is_over() => Some(Some(stream.clone())),
+            CurrentStream::Without(known, since) if *known == acting && since.elapsed() < WITHOUT => Some(None),
             _ => None,
         }
     }
 
     /// Whether it has been found out since then that none can be opened.
     fn has_failed(&self, acting: Acting, since: Instant) -> bool {
-        matches!(self, Current::Failed(known, moment) if *known == acting && *moment >= since)
+        matches!(self, CurrentStream::Failed(known, moment) if *known == acting && *moment >= since)
     }
 }
 
@@ -102,11 +102,11 @@ impl Streams {
         }
         let opened = timeout(BEGINNING, self.open(acting)).await.unwrap_or(Err(Failed::Silent));
         let current = match &opened {
-            Ok(Some(stream)) => Current::Open(acting, stream.clone()),
-            Ok(None) => Current::Without(acting, Instant::now()),
-            Err(_) => Current::Failed(acting, Instant::now()),
+            Ok(Some(stream)) => CurrentStream::Open(acting, stream.clone()),
+            Ok(None) => CurrentStream::Without(acting, Instant::now()),
+            Err(_) => CurrentStream::Failed(acting, Instant::now()),
         };
-        if let Current::Open(_, before) = std::mem::replace(&mut *lock(&self.current), current) {
+        if let CurrentStream::Open(_, before) = std::mem::replace(&mut *lock(&self.current), current) {
             before.end();
         }
         opened
@@ -184,7 +184,7 @@ impl State {
     /// The next calls that go with one write.
     fn next_calls(&mut self) -> Vec<(u64, Unwritten)> {
         let (mut taken, mut bytes) = (Vec::new(), 0);
-        while bytes < MOST_WRITTEN {
+        while bytes < MOST_WRITTEN_BYTES {
             let Some(next) = self.calls.pop_first() else { break };
             bytes += next.1.asked.bytes_passed_on();
             taken.push(next);
@@ -195,7 +195,7 @@ impl State {
 
 /// Who waits for the answer to a call, or for the rest of it.
 enum Waiting {
-    Answer(oneshot::Sender<Answered>),
+    Answer(oneshot::Sender<StreamAnswer>),
     Rest(UnboundedSender<Piece>),
 }
 
@@ -205,7 +205,7 @@ struct Piece {
     is_last: bool,
 }
 
-struct Answered {
+struct StreamAnswer {
     head: response::Parts,
     first: Bytes,
     rest: Option<UnboundedReceiver<Piece>>,
@@ -250,7 +250,7 @@ impl Stream {
     ) -> Result<Response<Bytes>, Failed> {
         let (sender, answered) = oneshot::channel();
         let begun = self.begin(Unwritten { asked: asked.clone(), said }, sender).ok_or(Failed::Ended)?;
-        let Answered { head, first, rest } = answered.await.map_err(|_| Failed::Ended)?;
+        let StreamAnswer { head, first, rest } = answered.await.map_err(|_| Failed::Ended)?;
         if !has_room(first.len()) {
             return Err(Failed::NoRoom);
         }
@@ -262,7 +262,7 @@ impl Stream {
         Ok(Response::from_parts(head, body))
     }
 
-    fn begin(&self, call: Unwritten, sender: oneshot::Sender<Answered>) -> Option<Begun<'_>> {
+    fn begin(&self, call: Unwritten, sender: oneshot::Sender<StreamAnswer>) -> Option<Begun<'_>> {
         let mut state = lock(&self.state);
         if state.is_over {
             return None;
@@ -294,7 +294,7 @@ impl Stream {
     /// Carries calls and answers until the connection breaks, or nobody wants it any more.
     async fn keep(self: Arc<Stream>, server: u32, carrier: Carrier, (read, times): (Bytes, Arc<Times>)) {
         let (reading, writing) = tokio::io::split(carrier);
-        let frames = Frames::behind(read, reading, FRAME_LIMIT);
+        let frames = Frames::behind(read, reading, FRAME_LIMIT_BYTES);
         let ended = tokio::select! {
             ended = self.read(frames, server, &times) => ended,
             ended = self.write(writing) => ended,
@@ -335,7 +335,7 @@ impl Stream {
             rest
         });
         drop(state);
-        let _ = sender.send(Answered { head, first, rest });
+        let _ = sender.send(StreamAnswer { head, first, rest });
     }
 
     fn take_piece(&self, number: u64, piece: Piece) {
@@ -382,7 +382,7 @@ impl Stream {
                 }
                 calls::write(&mut writing, &out, WRITING).await?;
                 out.clear();
-                out.shrink_to(MOST_WRITTEN);
+                out.shrink_to(MOST_WRITTEN_BYTES);
             }
         }
     }
@@ -398,7 +398,7 @@ async fn whole(
     loop {
         let Piece { bytes, is_last } = rest.recv().await.ok_or(Failed::Ended)?;
         whole.extend_from_slice(&bytes);
-        if whole.len() > LONGEST_ANSWER {
+        if whole.len() > LONGEST_ANSWER_BYTES {
             return Err(Failed::TooLong);
         }
         if !has_room(whole.len()) {

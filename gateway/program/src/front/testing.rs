@@ -14,7 +14,6 @@ use crate::http::{incoming, protocol_of, signable, Unread};
 /// Tests requests before they are passed on.
 #[derive(Clone)]
 pub struct Testing {
-    /// The keys of those who may come in; none where the gateway alone asks for them.
     keys: Option<Arc<Keys>>,
 }
 
@@ -24,14 +23,9 @@ impl Testing {
         Ok(Testing { keys: credentials.map(Keys::read).transpose()?.map(Arc::new) })
     }
 
-    /// Whether nobody comes in without a key.
-    pub fn asks_for_keys(&self) -> bool {
-        self.keys.is_some()
-    }
-
-    /// Reads the keys again. Where they can't be read, they stay as they were. None: there are none.
-    pub fn read_again(&self) -> Option<Result<()>> {
-        self.keys.as_deref().map(Keys::read_again)
+    /// The keys without which nobody comes in; none where the gateway alone asks for them.
+    pub fn keys(&self) -> &Option<Arc<Keys>> {
+        &self.keys
     }
 
     /// The action that is asked for. Refuses a request for nothing that is there, one that isn't signed as it has to be, and one of another form or beyond a

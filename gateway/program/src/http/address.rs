@@ -1,8 +1,10 @@
 //! Paths, and the URLs that clients are told.
 
-use std::net::{IpAddr, SocketAddr};
+use std::net::SocketAddr;
 
 use hyper::header::{HeaderMap, HOST};
+
+use crate::door::is_of_this_machine;
 
 /// A path at which there is nothing.
 #[derive(Debug)]
@@ -71,21 +73,11 @@ fn forwarded_scheme(headers: &HeaderMap) -> Option<&'static str> {
 }
 
 /// The longest name of a host, with a port.
-const LONGEST_AUTHORITY: usize = 260;
+const LONGEST_AUTHORITY_BYTES: usize = 260;
 
 fn is_authority(host: &str) -> bool {
-    (1..=LONGEST_AUTHORITY).contains(&host.len())
+    (1..=LONGEST_AUTHORITY_BYTES).contains(&host.len())
         && host.bytes().all(|byte| byte.is_ascii_alphanumeric() || b".-_:[]%~".contains(&byte))
-}
-
-/// 127.0.0.0/8 and ::1, and the former as a socket of IPv6 sees it.
-pub fn is_of_this_machine(address: IpAddr) -> bool {
-    match address {
-        IpAddr::V4(address) => address.is_loopback(),
-        IpAddr::V6(address) => {
-            address.is_loopback() || address.to_ipv4_mapped().is_some_and(|address| address.is_loopback())
-        }
-    }
 }
 
 #[cfg(test)]

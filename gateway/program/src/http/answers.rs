@@ -10,11 +10,11 @@ use hyper::{Body, Response};
 use hobbychair_tables::budget::Share;
 
 /// So many bytes go to a connection at once. It takes the next ones when these are on their way.
-const PIECE: usize = 64 << 10;
+const PIECE_BYTES: usize = 64 << 10;
 
 /// The answer as a connection writes it. It counts by this share until all but its last piece is written.
 pub fn to_be_written(mut answer: Response<Bytes>, share: &Arc<Share>) -> Response<Body> {
-    if answer.body().len() <= PIECE {
+    if answer.body().len() <= PIECE_BYTES {
         share.set(0);
         return answer.map(Body::from);
     }
@@ -31,7 +31,7 @@ pub fn to_be_written(mut answer: Response<Bytes>, share: &Arc<Share>) -> Respons
 
 async fn write(mut rest: Bytes, mut sender: Sender, share: Arc<Share>) {
     while !rest.is_empty() {
-        let piece = rest.split_to(rest.len().min(PIECE));
+        let piece = rest.split_to(rest.len().min(PIECE_BYTES));
         if rest.is_empty() {
             // Behind this one the connection's next request may count.
             share.set(0);
@@ -45,14 +45,14 @@ async fn write(mut rest: Bytes, mut sender: Sender, share: Arc<Share>) {
 /// A body of which a connection has a piece at a time: where it can't write the bytes as they stand, as by TLS, it copies them.
 /// Its length has to stand in a header.
 pub fn in_pieces(bytes: Bytes) -> Body {
-    if bytes.len() <= PIECE {
+    if bytes.len() <= PIECE_BYTES {
         return Body::from(bytes);
     }
     let (mut sender, body) = Body::channel();
     tokio::spawn(async move {
         let mut rest = bytes;
         while !rest.is_empty() {
-            if sender.send_data(rest.split_to(rest.len().min(PIECE))).await.is_err() {
+            if sender.send_data(rest.split_to(rest.len().min(PIECE_BYTES))).await.is_err() {
                 return;
             }
         }
@@ -72,7 +72,7 @@ mod tests {
     async fn a_large_answer_counts_until_its_last_piece_is_on_its_way() {
         let budget = Budget::of(usize::MAX, 0);
         let share = Arc::new(budget.share());
-        let bytes = Bytes::from(vec![7; 3 * PIECE + 1]);
+        let bytes = Bytes::from(vec![7; 3 * PIECE_BYTES + 1]);
         let mut answer = to_be_written(Response::new(bytes.clone()), &share);
         assert_eq!(answer.headers()[CONTENT_LENGTH], "196609");
         let mut written = Vec::new();
@@ -88,12 +88,12 @@ mod tests {
 
     #[tokio::test]
     async fn a_large_body_in_pieces_is_whole_and_nobody_has_all_of_it() {
-        let bytes: Bytes = (0..3 * PIECE + 1).map(|place| place as u8).collect::<Vec<_>>().into();
-        for length in [0, PIECE, PIECE + 1, bytes.len()] {
+        let bytes: Bytes = (0..3 * PIECE_BYTES + 1).map(|place| place as u8).collect::<Vec<_>>().into();
+        for length in [0, PIECE_BYTES, PIECE_BYTES + 1, bytes.len()] {
             let (mut body, mut whole) = (in_pieces(bytes.slice(..length)), Vec::new());
             while let Some(piece) = body.data().await {
                 let piece = piece.unwrap();
-                assert!(piece.len() <= PIECE);
+                assert!(piece.len() <= PIECE_BYTES);
                 whole.extend(piece);
             }
             assert!(whole == bytes[..length], "{length}");
@@ -104,7 +104,7 @@ mod tests {
     async fn an_answer_that_nobody_reads_counts_no_more() {
         let budget = Budget::of(usize::MAX, 0);
         let share = Arc::new(budget.share());
-        drop(to_be_written(Response::new(vec![7; 2 * PIECE].into()), &share));
+        drop(to_be_written(Response::new(vec![7; 2 * PIECE_BYTES].into()), &share));
         drop(share);
         while budget.used() > 0 {
             tokio::task::yield_now().await;
@@ -116,7 +116,7 @@ mod tests {
         let budget = Budget::of(usize::MAX, 0);
         let share = Arc::new(budget.share());
         share.set(9);
-        let answer = to_be_written(Response::new(vec![7; PIECE].into()), &share);
-        assert_eq!((budget.used(), answer.body().size_hint().exact()), (0, Some(PIECE as u64)));
+        let answer = to_be_written(Response::new(vec![7; PIECE_BYTES].into()), &share);
+        assert_eq!((budget.used(), answer.body().size_hint().exact()), (0, Some(PIECE_BYTES as u64)));
     }
 }

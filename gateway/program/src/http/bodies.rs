@@ -4,7 +4,7 @@ use std::pin::Pin;
 use std::task::Poll;
 
 use bytes::{Bytes, BytesMut};
-use hobbychair_sqs::attributes::LONGEST_MESSAGE;
+use hobbychair_sqs::attributes::LONGEST_MESSAGE_BYTES;
 use hobbychair_sqs::errors::SqsError;
 use hyper::body::HttpBody;
 use hyper::Body;
@@ -14,9 +14,9 @@ use hobbychair_tables::budget::Share;
 
 /// The longest body of a request, in bytes: JSON writes one byte of a message as six at most, and 64 KiB are for the
 /// rest.
-pub const LONGEST_BODY: usize = 6 * LONGEST_MESSAGE + (64 << 10);
+pub const LONGEST_BODY_BYTES: usize = 6 * LONGEST_MESSAGE_BYTES + (64 << 10);
 
-/// Reads a body to its end, and has it count for the share. It is refused where it is longer than [`LONGEST_BODY`], isn't
+/// Reads a body to its end, and has it count for the share. It is refused where it is longer than [`LONGEST_BODY_BYTES`], isn't
 /// whole at `deadline`, or finds no room. What is refused for its length or for want of room is read on beside the refusal
 /// and thrown away: what is left unread would have the connection reset before its client has read the answer.
 pub async fn read(mut body: Body, share: &Share, deadline: Instant) -> Result<Bytes, SqsError> {
@@ -31,16 +31,16 @@ pub async fn read(mut body: Body, share: &Share, deadline: Instant) -> Result<By
 }
 
 fn too_long() -> SqsError {
-    SqsError::RequestTooLong { limit: LONGEST_BODY }
+    SqsError::RequestTooLong { limit: LONGEST_BODY_BYTES }
 }
 
 async fn read_whole(body: &mut Body, share: &Share, deadline: Instant) -> Result<Bytes, SqsError> {
-    if body.size_hint().lower() > LONGEST_BODY as u64 {
+    if body.size_hint().lower() > LONGEST_BODY_BYTES as u64 {
         return Err(too_long());
     }
     let mut pieces = Pieces::default();
     while let Some(piece) = next_piece(body, deadline).await? {
-        if pieces.len() + piece.len() > LONGEST_BODY {
+        if pieces.len() + piece.len() > LONGEST_BODY_BYTES {
             return Err(too_long());
         }
         if !share.try_set(pieces.len() + piece.len()) {
@@ -148,7 +148,7 @@ mod tests {
     async fn a_body_that_is_too_long_is_refused_with_and_without_a_length() {
         let budget = Budget::new(256 << 20);
         let share = budget.share();
-        let long = vec![b'x'; LONGEST_BODY + 1];
+        let long = vec![b'x'; LONGEST_BODY_BYTES + 1];
         let sized = read(Body::from(long.clone()), &share, soon()).await;
         assert!(matches!(sized, Err(SqsError::RequestTooLong { .. })));
         let (mut sender, body) = Body::channel();

@@ -18,9 +18,9 @@ use tokio::sync::{Notify, OwnedSemaphorePermit, Semaphore};
 use tokio::task::JoinHandle;
 use tokio::time::{interval, sleep, timeout, Instant, MissedTickBehavior};
 
-use super::watched::Progress;
-use super::{Arrival, Connection, Service, LONGEST_REQUEST};
-use crate::calls::{self, Call, FromFront, FRAME_LIMIT, PIECE, PROTOCOL};
+use super::{Arrival, Connection, Service};
+use crate::calls::{self, Call, FromFront, FRAME_LIMIT_BYTES, PIECE_BYTES, PROTOCOL};
+use crate::door::{Progress, LONGEST_REQUEST};
 use crate::ending::Ending;
 
 /// A front says so often that it is there, and one that says nothing for longer isn't any more.
@@ -33,7 +33,7 @@ const TIME: Duration = Duration::from_millis(500);
 const WRITING: Duration = Duration::from_secs(10);
 
 /// So much is written at once.
-const MOST_WRITTEN: usize = 256 << 10;
+const MOST_WRITTEN_BYTES: usize = 256 << 10;
 
 /// So many calls of a connection may be turned away whose answers aren't written.
 const MOST_TURNED_AWAY: usize = 1024;
@@ -61,7 +61,7 @@ pub fn begin() -> Response<Body> {
 }
 
 /// An answer on its way, and what it keeps until it is written.
-struct Answered {
+struct CallAnswer {
     number: u64,
     response: Response<Bytes>,
     kept: Kept,
@@ -70,10 +70,10 @@ struct Answered {
 /// What counts an answer, by its bytes and its place. It goes back when this is dropped.
 struct Kept {
     share: Arc<Share>,
-    place: Place,
+    place: CallPlace,
 }
 
-enum Place {
+enum CallPlace {
     Served { _permit: OwnedSemaphorePermit },
     TurnedAway { _permit: OwnedSemaphorePermit },
 }
@@ -84,7 +84,7 @@ struct Calls {
     peer: SocketAddr,
     /// So many calls of all connections are answered at once. Others are told that these are too many.
     places: Arc<Semaphore>,
-    answers: UnboundedSender<Answered>,
+    answers: UnboundedSender<CallAnswer>,
     open: Mutex<HashMap<u64, JoinHandle<()>>>,
     /// So many are told so whose answers aren't written. No more calls are read before some are.
     turned_away: Arc<Semaphore>,
@@ -113,10 +113,10 @@ impl Calls {
     /// Begins to answer a call, or to turn it away.
     async fn begin(self: &Arc<Calls>, number: u64, call: Call) {
         let place = match self.places.clone().try_acquire_owned() {
-            Ok(permit) => Place::Served { _permit: permit },
+            Ok(permit) => CallPlace::Served { _permit: permit },
             // Nobody closes this one.
             Err(_) => match self.turned_away.clone().acquire_owned().await {
-                Ok(permit) => Place::TurnedAway { _permit: permit },
+                Ok(permit) => CallPlace::TurnedAway { _permit: permit },
                 Err(_) => return,
             },
         };
@@ -131,12 +131,12 @@ impl Calls {
         let began = Instant::now();
         let arrival = Arrival { began, deadline: began + LONGEST_REQUEST };
         let response = match kept.place {
-            Place::Served { .. } => connection.admit(arrival, request_of(call)).await.answer().await,
-            Place::TurnedAway { .. } => connection.turn_away(arrival, request_of(call)).await,
+            CallPlace::Served { .. } => connection.admit(arrival, request_of(call)).await.answer().await,
+            CallPlace::TurnedAway { .. } => connection.turn_away(arrival, request_of(call)).await,
         };
         kept.share.set(response.body().len());
         // Where nobody writes answers any more, the connection has ended.
-        let _ = self.answers.send(Answered { number, response, kept });
+        let _ = self.answers.send(CallAnswer { number, response, kept });
         lock(&self.open).remove(&number);
     }
 
@@ -176,11 +176,11 @@ where
     let (reading, writing) = tokio::io::split(stream);
     let (answers, answered) = unbounded_channel();
     let (begun, over) = (Arc::default(), Notify::new());
-    let mut writer = Writer::new(writing, answered, Arc::clone(&begun));
+    let mut writer = AnswerWriter::new(writing, answered, Arc::clone(&begun));
     let (open, turned_away) = (Mutex::default(), Arc::new(Semaphore::new(MOST_TURNED_AWAY)));
     let calls = Arc::new(Calls { service: service.clone(), peer, places, answers, open, turned_away, begun });
     let _given_up = GivenUp(calls.clone());
-    let frames = Frames::behind(read, reading, FRAME_LIMIT);
+    let frames = Frames::behind(read, reading, FRAME_LIMIT_BYTES);
     let writing = async {
         writer.write(|| service.time_for_fronts(), &over).await?;
         writer.writing.shutdown().await?;
@@ -233,9 +233,9 @@ async fn hear(
 }
 
 /// Writes answers. Of large ones a piece is written at a time, so that no other waits for all of one.
-struct Writer<W> {
+struct AnswerWriter<W> {
     writing: W,
-    answered: UnboundedReceiver<Answered>,
+    answered: UnboundedReceiver<CallAnswer>,
     /// The rests of large ones.
     large: VecDeque<(u64, Bytes, Kept)>,
     /// Their calls, as far as the rest is wanted.
@@ -245,9 +245,9 @@ struct Writer<W> {
     kept: Vec<Kept>,
 }
 
-impl<W: AsyncWrite + Unpin> Writer<W> {
-    fn new(writing: W, answered: UnboundedReceiver<Answered>, begun: Arc<Mutex<HashSet<u64>>>) -> Writer<W> {
-        Writer { writing, answered, large: VecDeque::new(), begun, out: Vec::new(), kept: Vec::new() }
+impl<W: AsyncWrite + Unpin> AnswerWriter<W> {
+    fn new(writing: W, answered: UnboundedReceiver<CallAnswer>, begun: Arc<Mutex<HashSet<u64>>>) -> AnswerWriter<W> {
+        AnswerWriter { writing, answered, large: VecDeque::new(), begun, out: Vec::new(), kept: Vec::new() }
     }
 
     /// Writes what is answered, until nothing more is to come.
@@ -278,18 +278,18 @@ impl<W: AsyncWrite + Unpin> Writer<W> {
     /// answered, however much it is.
     fn append_more(&mut self, all: bool) {
         self.append_piece();
-        while all || self.out.len() < MOST_WRITTEN {
+        while all || self.out.len() < MOST_WRITTEN_BYTES {
             let Ok(answered) = self.answered.try_recv() else { break };
             self.append(answered);
         }
-        while self.out.len() < MOST_WRITTEN && !self.large.is_empty() {
+        while self.out.len() < MOST_WRITTEN_BYTES && !self.large.is_empty() {
             self.append_piece();
         }
     }
 
-    fn append(&mut self, Answered { number, response, kept }: Answered) {
+    fn append(&mut self, CallAnswer { number, response, kept }: CallAnswer) {
         let (head, mut body) = response.into_parts();
-        let piece = body.split_to(body.len().min(PIECE));
+        let piece = body.split_to(body.len().min(PIECE_BYTES));
         let is_whole = body.is_empty();
         calls::append_answer(&mut self.out, number, (head.status, &head.headers), &piece, is_whole);
         if is_whole {
@@ -306,7 +306,7 @@ impl<W: AsyncWrite + Unpin> Writer<W> {
         if !lock(&self.begun).contains(&number) {
             return;
         }
-        let piece = rest.split_to(rest.len().min(PIECE));
+        let piece = rest.split_to(rest.len().min(PIECE_BYTES));
         calls::append_piece(&mut self.out, number, &piece, rest.is_empty());
         if rest.is_empty() {
             lock(&self.begun).remove(&number);
@@ -319,7 +319,7 @@ impl<W: AsyncWrite + Unpin> Writer<W> {
     async fn write_out(&mut self) -> io::Result<()> {
         calls::write(&mut self.writing, &self.out, WRITING).await?;
         self.out.clear();
-        self.out.shrink_to(MOST_WRITTEN);
+        self.out.shrink_to(MOST_WRITTEN_BYTES);
         self.kept.clear();
         Ok(())
     }
@@ -333,26 +333,26 @@ mod tests {
     use super::*;
     use crate::calls::FromGateway;
 
-    fn answered(number: u64, length: usize, budget: &Budget) -> Answered {
+    fn answered(number: u64, length: usize, budget: &Budget) -> CallAnswer {
         let share = Arc::new(budget.share());
         share.set(length);
-        let place = Place::TurnedAway { _permit: Arc::new(Semaphore::new(1)).try_acquire_owned().unwrap() };
+        let place = CallPlace::TurnedAway { _permit: Arc::new(Semaphore::new(1)).try_acquire_owned().unwrap() };
         let kept = Kept { share, place };
-        Answered { number, response: Response::new(vec![number as u8; length].into()), kept }
+        CallAnswer { number, response: Response::new(vec![number as u8; length].into()), kept }
     }
 
     /// What a writer of such answers tells, up to its end.
-    async fn told(answers: Vec<Answered>, begun: Arc<Mutex<HashSet<u64>>>) -> Vec<FromGateway> {
+    async fn told(answers: Vec<CallAnswer>, begun: Arc<Mutex<HashSet<u64>>>) -> Vec<FromGateway> {
         let (writing, reading) = duplex(1 << 20);
         let (sender, answered) = unbounded_channel();
         answers.into_iter().for_each(|answer| drop(sender.send(answer)));
-        let mut writer = Writer::new(writing, answered, begun);
+        let mut writer = AnswerWriter::new(writing, answered, begun);
         let over = Notify::new();
         over.notify_one();
         writer.write(|| Some(7), &over).await.unwrap();
         assert!(lock(&writer.begun).is_empty());
         drop(writer);
-        let mut frames: Frames<DuplexStream> = Frames::new(reading, FRAME_LIMIT);
+        let mut frames: Frames<DuplexStream> = Frames::new(reading, FRAME_LIMIT_BYTES);
         let mut told = Vec::new();
         while let Ok(frame) = frames.next().await {
             told.push(FromGateway::read(frame).unwrap());
@@ -373,14 +373,14 @@ mod tests {
     #[tokio::test]
     async fn no_answer_waits_for_all_of_a_large_one_and_its_bytes_count_until_they_are_written() {
         let budget = Budget::of(usize::MAX, 0);
-        let answers = [(1, 2 * PIECE + 1), (2, 3 * PIECE), (3, 5), (4, 0)];
+        let answers = [(1, 2 * PIECE_BYTES + 1), (2, 3 * PIECE_BYTES), (3, 5), (4, 0)];
         let told = told(answers.map(|(number, length)| answered(number, length, &budget)).into(), Arc::default()).await;
         let wanted = [(1, false), (1, false), (2, false), (3, true), (4, true), (1, true), (2, false), (2, true)];
         assert_eq!(order(&told), wanted);
         let mut lengths = [0; 5];
         for frame in &told {
             if let FromGateway::Answer { number, piece, .. } | FromGateway::Piece { number, piece, .. } = frame {
-                assert!(piece.len() <= PIECE && piece.iter().all(|byte| u64::from(*byte) == *number));
+                assert!(piece.len() <= PIECE_BYTES && piece.iter().all(|byte| u64::from(*byte) == *number));
                 lengths[*number as usize] += piece.len();
             }
         }
@@ -390,10 +390,10 @@ mod tests {
     #[tokio::test]
     async fn of_a_large_answer_that_nobody_wants_any_more_no_rest_is_written() {
         let (budget, begun) = (Budget::of(usize::MAX, 0), Arc::<Mutex<HashSet<u64>>>::default());
-        let (writing, _reading) = duplex(4 * PIECE);
+        let (writing, _reading) = duplex(4 * PIECE_BYTES);
         let (sender, waiting) = unbounded_channel();
-        let mut writer = Writer::new(writing, waiting, begun.clone());
-        drop(sender.send(answered(1, 100 * PIECE, &budget)));
+        let mut writer = AnswerWriter::new(writing, waiting, begun.clone());
+        drop(sender.send(answered(1, 100 * PIECE_BYTES, &budget)));
         drop(sender.send(answered(2, 5, &budget)));
         let over = Notify::new();
         let (ended, ()) = tokio::join!(timeout(Duration::from_secs(9), writer.write(|| None, &over)), async {
@@ -403,7 +403,7 @@ mod tests {
             over.notify_one();
         });
         assert!(ended.is_err(), "who reads nothing has the writer wait");
-        assert_eq!((writer.large.len(), budget.used()), (1, 100 * PIECE + 5));
+        assert_eq!((writer.large.len(), budget.used()), (1, 100 * PIECE_BYTES + 5));
         writer.append_piece();
         assert!(writer.large.is_empty() && budget.used() == 5);
     }
@@ -412,7 +412,7 @@ mod tests {
     async fn a_front_that_takes_nothing_loses_its_connection() {
         let (writing, _reading) = duplex(4);
         let (_sender, answered) = unbounded_channel();
-        let mut writer = Writer::new(writing, answered, Arc::default());
+        let mut writer = AnswerWriter::new(writing, answered, Arc::default());
         let begun = Instant::now();
         let ended = writer.write(|| None, &Notify::new()).await;
         assert_eq!((ended.unwrap_err().kind(), begun.elapsed()), (io::ErrorKind::TimedOut, WRITING));

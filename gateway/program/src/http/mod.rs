@@ -4,16 +4,13 @@ mod address;
 mod answers;
 pub mod bodies;
 mod calls;
-mod connections;
-mod framing;
-mod places;
 mod reading;
+mod reception;
 mod visitor;
-mod watched;
 
 use std::net::SocketAddr;
 use std::sync::{Arc, Mutex, PoisonError};
-use std::time::{Duration, SystemTime};
+use std::time::SystemTime;
 
 use bytes::Bytes;
 use hobbychair_bytes::moment::Moment;
@@ -33,16 +30,15 @@ use tokio::time::Instant;
 use uuid::Uuid;
 
 use crate::actions::{Actions, Caller};
+use crate::door::{Progress, LONGEST_HEAD_BYTES};
 use crate::metrics::Metrics;
 use crate::repeats::{is_repeat, CallFields, CallResult, IdempotencyKey, Lookup, OpenCall, Repeats};
-pub use address::{is_of_this_machine, Addresses};
+pub use address::Addresses;
 pub use answers::{in_pieces, to_be_written};
-pub use connections::{listen, shared, test_free, Door};
-pub use places::Places;
 pub use reading::{incoming, signable, Unread};
+pub use reception::Reception;
 pub use visitor::Hosts;
 use visitor::{may_be_link, KnownHost};
-pub use watched::{Progress, Watched};
 
 static TARGET: HeaderName = HeaderName::from_static("x-amz-target");
 static INVOCATION: HeaderName = HeaderName::from_static("amz-sdk-invocation-id");
@@ -56,12 +52,6 @@ static ROOM: HeaderName = HeaderName::from_static("x-hobbychair-room");
 /// The chain's time, in milliseconds: fronts take it out of answers.
 static TIME: HeaderName = HeaderName::from_static("x-hobbychair-time");
 static QUERY_ERROR: HeaderName = HeaderName::from_static("x-amzn-query-error");
-
-/// The longest head of a request, in bytes.
-pub const LONGEST_HEAD: usize = 32 << 10;
-
-/// A request is whole so long after its first byte.
-const LONGEST_REQUEST: Duration = Duration::from_secs(30);
 
 /// What all connections share.
 pub struct Service {
@@ -95,7 +85,7 @@ struct Arrival {
 }
 
 /// A request that was read, and that may be performed.
-struct Call {
+struct PermittedCall {
     connection: Arc<Connection>,
     protocol: Protocol,
     action: Action,
@@ -138,7 +128,7 @@ struct Admitted {
 
 /// What comes of a request that was admitted.
 enum Next {
-    Perform(Box<Call>, Option<Box<Repeatable>>),
+    Perform(Box<PermittedCall>, Option<Box<Repeatable>>),
     Answered(Box<Response<Bytes>>),
 }
 
@@ -218,7 +208,7 @@ impl Connection {
         let mut log = AccessLog { arrival, request_id: Uuid::new_v4(), action: None, queue: None, identity: None };
         let protocol = protocol_of(&head.headers);
         let read = match body {
-            _ if length_of_head(&head) > LONGEST_HEAD => Err(Unread::LongHead),
+            _ if length_of_head(&head) > LONGEST_HEAD_BYTES => Err(Unread::LongHead),
             Ok(bytes) => self.clone().read(protocol, &head, &bytes, &mut log),
             Err(error) => Err(Unread::Refused { error, closes: true }),
         };
@@ -259,7 +249,7 @@ impl Connection {
         let asked_before = is_of_chain && head.headers.contains_key(&AGAIN);
         let room = is_of_chain.then(|| text_of(&head.headers, &ROOM)?.parse().ok()).flatten();
         let digest = None;
-        let mut call = Call {
+        let mut call = PermittedCall {
             connection: self,
             protocol,
             action,
@@ -325,8 +315,8 @@ impl Admitted {
     }
 }
 
-impl Call {
-    async fn answer(self: Box<Call>, repeatable: Option<Box<Repeatable>>) -> Reply {
+impl PermittedCall {
+    async fn answer(self: Box<PermittedCall>, repeatable: Option<Box<Repeatable>>) -> Reply {
         let Some(repeatable) = repeatable else {
             return self.answer_once().await;
         };
@@ -359,7 +349,7 @@ impl Call {
     }
 
     /// Performs a call of which there are no repeats.
-    async fn answer_once(self: Box<Call>) -> Reply {
+    async fn answer_once(self: Box<PermittedCall>) -> Reply {
         let presence = Presence::default();
         // Others wait for nothing that may go to someone else.
         let socket = self.connection.progress.socket().filter(|_| self.action == Action::ReceiveMessage);
@@ -374,15 +364,17 @@ impl Call {
         }
     }
 
-    async fn perform_repeatable(self: Box<Call>, presence: Presence, open: OpenCall) {
+    async fn perform_repeatable(self: Box<PermittedCall>, presence: Presence, open: OpenCall) {
         let connection = self.connection.clone();
         let result = self.perform(presence).await;
         connection.service.repeats.end(open, result);
     }
 
-    async fn perform(self: Box<Call>, presence: Presence) -> CallResult {
+    async fn perform(self: Box<PermittedCall>, presence: Presence) -> CallResult {
         let (asked_before, room) = (self.asked_before, self.room);
-        let Call { connection, protocol, action, request, request_id, identity, base_url, digest, until, .. } = *self;
+        let PermittedCall {
+            connection, protocol, action, request, request_id, identity, base_url, digest, until, ..
+        } = *self;
         let share = connection.share.clone();
         let caller = Caller { base_url, presence, identity, call: digest, asked_before, room, share };
         match wanted_until(until, connection.service.actions.perform(request, &caller)).await {

@@ -21,7 +21,7 @@ pub struct Hosts {
 const ANY: &str = "*";
 
 /// As many bytes a host has that is kept: the longest name, and a port.
-const LONGEST_KNOWN: usize = 260;
+const LONGEST_KNOWN_BYTES: usize = 260;
 
 /// What a signature in a header begins with. That of a link with a name and a password doesn't.
 const SIGNED: &[u8] = b"AWS4-HMAC-SHA256 ";
@@ -57,7 +57,7 @@ impl Hosts {
             return Ok(());
         }
         self.test(uri, headers)?;
-        if host.len() <= LONGEST_KNOWN {
+        if host.len() <= LONGEST_KNOWN_BYTES {
             // Where another one is known, that one stays.
             let _ = known.0.set(host.as_bytes().into());
         }

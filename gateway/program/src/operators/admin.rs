@@ -11,13 +11,12 @@ use hobbychair_store::store::Store;
 use hobbychair_tables::ask::Outcome;
 use hobbychair_tables::budget::Share;
 use hyper::header::{HeaderMap, HeaderValue, CONTENT_TYPE};
-use hyper::server::conn::Http;
-use hyper::service::service_fn;
 use hyper::{Body, Method, Request, Response, StatusCode, Uri};
 use tokio::net::TcpListener;
-use tokio::sync::Semaphore;
 
-use crate::http::{to_be_written, Hosts, Progress, Watched, LONGEST_HEAD};
+use crate::door::{converse, Door, Guest, Progress, Protection};
+use crate::ending::End;
+use crate::http::{to_be_written, Hosts};
 use crate::metrics::{Counts, Metrics};
 use crate::operators::peek::{self, Peeks};
 
@@ -29,9 +28,6 @@ const LONGEST_LOOK: Duration = Duration::from_secs(2);
 pub struct Health {
     phase: AtomicU8,
 }
-
-/// Between two looks for a connection where accepting them failed.
-const PAUSE: Duration = Duration::from_millis(50);
 
 /// So long an operator's request may take from its first byte on.
 const LONGEST_REQUEST: Duration = Duration::from_secs(10);
@@ -79,39 +75,36 @@ pub struct Admin {
 pub async fn serve_operators<F, A>(listener: TcpListener, most: u32, answer: F)
 where
     F: Fn(Request<Body>) -> A + Clone + Send + Sync + 'static,
-    A: Future<Output = (Response<Bytes>, Option<Arc<Share>>)> + Send,
+    A: Future<Output = (Response<Bytes>, Option<Arc<Share>>)> + Send + 'static,
 {
-    let places = Arc::new(Semaphore::new(most as usize));
-    while let Ok(place) = places.clone().acquire_owned().await {
-        let Ok((stream, _)) = listener.accept().await else {
-            tokio::time::sleep(PAUSE).await;
-            continue;
-        };
+    let (_end, ending) = End::new();
+    let welcome = move |Guest { stream, mut ending, .. }: Guest| {
         let answer = answer.clone();
-        let progress = Progress::new(LONGEST_REQUEST).with_idle(LONGEST_IDLE);
-        let stream = Watched::new(stream, progress.clone());
-        let handle = service_fn(move |request: Request<Body>| {
-            let (answer, progress) = (answer.clone(), progress.clone());
-            async move {
+        async move {
+            let progress = Progress::new(LONGEST_REQUEST).with_idle(LONGEST_IDLE);
+            let answer = |request| {
                 progress.is_read();
-                let (response, share) = answer(request).await;
-                progress.answers(response.body().len() as u64);
-                Ok::<_, Infallible>(match share {
-                    Some(share) => to_be_written(response, &share),
-                    None => response.map(Body::from),
-                })
-            }
-        });
-        let mut http = Http::new();
-        http.http1_only(true).max_buf_size(LONGEST_HEAD);
-        let connection = http.serve_connection(stream, handle);
-        tokio::spawn(async move {
-            let _place = place;
-            if let Err(error) = connection.await {
+                as_written(answer(request), progress.clone())
+            };
+            if let Err(error) = converse(stream, &progress, &mut ending, None, answer).await {
                 tracing::debug!("an operator's connection ended: {error}");
             }
-        });
-    }
+        }
+    };
+    Door::new(Protection::None, most).serve(listener, ending, welcome).await;
+}
+
+/// An answer as a connection writes it.
+async fn as_written(
+    answer: impl Future<Output = (Response<Bytes>, Option<Arc<Share>>)>,
+    progress: Progress,
+) -> Result<Response<Body>, Infallible> {
+    let (response, share) = answer.await;
+    progress.answers(response.body().len() as u64);
+    Ok(match share {
+        Some(share) => to_be_written(response, &share),
+        None => response.map(Body::from),
+    })
 }
 
 impl Admin {
@@ -179,15 +172,7 @@ impl Admin {
             }
             None => self.metrics.text(&[], None),
         };
-        match told {
-            Ok(told) => {
-                let mut response = Response::new(Bytes::from(told));
-                let content_type = HeaderValue::from_static(Metrics::content_type());
-                response.headers_mut().insert(CONTENT_TYPE, content_type);
-                response
-            }
-            Err(error) => text(StatusCode::INTERNAL_SERVER_ERROR, format!("{error}\n")),
-        }
+        metrics(told)
     }
 }
 
@@ -202,6 +187,19 @@ async fn counts(store: &Store) -> Vec<Counts> {
         }
     }
     counts
+}
+
+/// An answer with metrics, or why there are none.
+pub fn metrics(told: prometheus::Result<Vec<u8>>) -> Response<Bytes> {
+    match told {
+        Ok(told) => {
+            let mut response = Response::new(Bytes::from(told));
+            let content_type = HeaderValue::from_static(Metrics::content_type());
+            response.headers_mut().insert(CONTENT_TYPE, content_type);
+            response
+        }
+        Err(error) => text(StatusCode::INTERNAL_SERVER_ERROR, format!("{error}\n")),
+    }
 }
 
 /// An answer in plain text.

@@ -30,7 +30,7 @@ pub const PATH: &str = "/_aws/sqs/messages";
 const HANDLE: &str = "SQS/BACKDOOR/ACCESS";
 
 /// So many messages are looked at before others may use the queue again.
-const CHUNK: usize = 100;
+const CHUNK_MESSAGES: usize = 100;
 
 /// An answer has at most so many messages, ends with the one with which they have so many bytes, and comes of so many.
 const MOST_MESSAGES: usize = 1_000;
@@ -39,8 +39,8 @@ const MOST_LOOKED_AT: usize = 100_000;
 
 /// What all answers may keep in memory, and what one takes at most while it is made: messages of twice `MOST_BYTES`,
 /// and a text in which a byte of theirs may have six.
-const MEMORY: usize = 64 << 20;
-const LONGEST_ANSWER: usize = 16 << 20;
+const MEMORY_BYTES: usize = 64 << 20;
+const LONGEST_ANSWER_BYTES: usize = 16 << 20;
 
 /// The format of an answer.
 #[derive(Clone, Copy, Debug, PartialEq, Eq)]
@@ -107,14 +107,14 @@ pub struct Peeks {
 
 impl Peeks {
     pub fn new(owner: Owner) -> Peeks {
-        Peeks { owner, budget: Budget::of(MEMORY, 0) }
+        Peeks { owner, budget: Budget::of(MEMORY_BYTES, 0) }
     }
 
     /// The answer to a request below `PATH`, and what it counts.
     pub async fn answer(&self, store: &Store, uri: &Uri, headers: &HeaderMap) -> (Response<Bytes>, Arc<Share>) {
         let format = Format::of(headers);
         let share = Arc::new(self.budget.share());
-        let reply = if share.try_set(LONGEST_ANSWER) {
+        let reply = if share.try_set(LONGEST_ANSWER_BYTES) {
             self.page(store, uri, format).await
         } else {
             Err(SqsError::ServiceUnavailable("Too many messages are being shown.".into()))
@@ -158,7 +158,7 @@ impl Page {
             if queue.state().removed {
                 return Err(SqsError::QueueDoesNotExist);
             }
-            let (place, chunk) = queue.peek(after, CHUNK, store.clock().now());
+            let (place, chunk) = queue.peek(after, CHUNK_MESSAGES, store.clock().now());
             cursor = page.take(store, chunk, wanted, &place, owner)?;
         }
         page.next = cursor.map(|cursor| cursor.to_string());

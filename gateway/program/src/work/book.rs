@@ -4,7 +4,7 @@
 //! counts is said there once more, and the earlier one is removed with what is old.
 
 use std::sync::Arc;
-use std::time::Duration;
+use std::time::{Duration, Instant};
 
 use hobbychair_sqs::errors::SqsError;
 use hobbychair_tables::ask::Ask;
@@ -18,12 +18,15 @@ use hobbychair_store::store::Store;
 /// So often books are looked at.
 const PAUSE: Duration = Duration::from_millis(250);
 
+/// One that hasn't changed is looked at again after this, since of what it says removals count for a minute alone.
+const LOOK_AGAIN: Duration = Duration::from_secs(5);
+
 /// What couldn't be done is tried again after this, and later each time up to [`LONGEST_REST`].
 const LONGEST_REST: Duration = Duration::from_secs(10);
 
 /// A book isn't begun anew for less than so many bytes, or so many while memory is wanted back.
-const WORTH_IT: u64 = 1 << 20;
-const WORTH_IT_IF_FULL: u64 = 64 << 10;
+const WORTH_IT_BYTES: u64 = 1 << 20;
+const WORTH_IT_IF_FULL_BYTES: u64 = 64 << 10;
 
 /// So many queues are said once more at once.
 const AT_ONCE: usize = 64;
@@ -32,13 +35,16 @@ const AT_ONCE: usize = 64;
 /// be done now, since a journal is full, is done later.
 pub async fn prepare(store: &Store) {
     for place in store.places() {
-        match bring_up_to_date(store, place).await {
-            Err(error) if error != SqsError::store_is_gone() => {
-                tracing::warn!("the book is brought up to date later: {error}");
-            }
-            // Why a store is gone is told where it ends.
-            _ => {}
+        if let Err(error) = bring_up_to_date(store, place).await {
+            warn_of(&error);
         }
+    }
+}
+
+/// Says that a book is brought up to date later. Why a store is gone is told where it ends, as the last line of the log.
+fn warn_of(error: &SqsError) {
+    if *error != SqsError::store_is_gone() {
+        tracing::warn!("the book is brought up to date later: {error}");
     }
 }
 
@@ -53,13 +59,14 @@ pub async fn keep(store: Store) {
 
 async fn keep_one(store: Store, place: usize) {
     // A start may have left something to do.
-    let (mut is_due, mut rest, mut looked) = (true, PAUSE, 0);
+    let (mut is_due, mut rest, mut looked, mut looked_at) = (true, PAUSE, 0, Instant::now());
     loop {
         tokio::time::sleep(rest).await;
         let bytes = store.queues().books().bytes_of_current(place);
-        let has_changed = bytes != looked || store.is_memory_full();
-        looked = bytes;
-        is_due |= has_changed && is_worth_beginning_anew(&store, place);
+        if bytes != looked || looked_at.elapsed() > LOOK_AGAIN || store.is_memory_full() {
+            (looked, looked_at) = (bytes, Instant::now());
+            is_due |= is_worth_beginning_anew(&store, place);
+        }
         if !is_due && store.queues().left_over().of(place).is_empty() {
             continue;
         }
@@ -67,7 +74,7 @@ async fn keep_one(store: Store, place: usize) {
             Ok(()) => (is_due, rest) = (false, PAUSE),
             Err(error) => {
                 rest = LONGEST_REST.min(2 * rest);
-                tracing::warn!("the book is brought up to date later: {error}");
+                warn_of(&error);
             }
         }
     }
@@ -76,7 +83,7 @@ async fn keep_one(store: Store, place: usize) {
 /// Whether old entries take more than those that count.
 fn is_worth_beginning_anew(store: &Store, place: usize) -> bool {
     let bytes = store.queues().books().bytes_of_current(place);
-    let least = if store.is_memory_full() { WORTH_IT_IF_FULL } else { WORTH_IT };
+    let least = if store.is_memory_full() { WORTH_IT_IF_FULL_BYTES } else { WORTH_IT_BYTES };
     if bytes <= least {
         return false;
     }

@@ -21,10 +21,10 @@ const AT_ONCE: usize = 10;
 const FAR: usize = 100;
 
 /// Messages that couldn't be moved are tried again after so many milliseconds.
-const PAUSE: u64 = 1000;
+const PAUSE_MILLISECONDS: u64 = 1000;
 
 /// What is handed out before it is due is hidden for so many seconds: as long as can be.
-const HIDDEN: u32 = 43_200;
+const HIDDEN_SECONDS: u32 = 43_200;
 
 /// Moves messages when they are due, for as long as the gateway serves.
 pub async fn keep_moving(store: Store) {
@@ -46,7 +46,7 @@ async fn try_to_move(store: Store, delays: Arc<Queue>) {
         Err(SqsError::QueueDoesNotExist) => {}
         Err(error) => {
             tracing::warn!("delayed messages of {} wait longer: {error}", delays.name);
-            alarms.set(store.clock().now() + PAUSE, &delays);
+            alarms.set(store.clock().now() + PAUSE_MILLISECONDS, &delays);
         }
     }
 }
@@ -113,7 +113,7 @@ fn is_for_now(error: &SqsError) -> bool {
 /// What the store refuses holds nothing up: it is tried again later, and after some tries not any more.
 fn put_behind(store: &Store, delays: &Queue, handed: &Handed, error: &SqsError) {
     let sequence = handed.receipt.sequence;
-    if delays.state().refused_due(sequence, store.clock().now() + PAUSE) {
+    if delays.state().refused_due(sequence, store.clock().now() + PAUSE_MILLISECONDS) {
         tracing::error!("the delayed message {sequence} of {} is set aside: {error}", delays.name);
     }
 }
@@ -126,7 +126,7 @@ async fn hand_out(store: &Store, held: &Held, due: &[u64]) -> Result<Vec<Handed>
     let mut found = HashMap::new();
     while let Some(last) = due.iter().filter(|sequence| !found.contains_key(*sequence)).max() {
         let next = delays.state().next_up_to(*last, AT_ONCE, store.clock().now());
-        let handed = held.take_and_hide(next, HIDDEN).await?;
+        let handed = held.take_and_hide(next, HIDDEN_SECONDS).await?;
         if handed.is_empty() {
             return Err(SqsError::InternalFailure("The store didn't hand out what is due.".into()));
         }

@@ -13,7 +13,7 @@ use hobbychair_store::store::{Held, Store};
 
 /// Of the time between the last record of a journal and the start that finds it, so much makes messages older, in
 /// milliseconds.
-const COUNTED: u64 = 24 * 3_600_000;
+const COUNTED_MILLISECONDS: u64 = 24 * 3_600_000;
 
 /// So often queues are looked at.
 const PAUSE: Duration = Duration::from_secs(1);
@@ -25,7 +25,7 @@ const AT_ONCE: usize = 10;
 /// How much of the time from the last record to a start doesn't count, in milliseconds, if any.
 fn uncounted(last_record: Moment, start: Moment) -> Option<u64> {
     let passed = start.saturating_sub(last_record);
-    passed.checked_sub(COUNTED).filter(|uncounted| *uncounted > 0 && last_record > 0)
+    passed.checked_sub(COUNTED_MILLISECONDS).filter(|uncounted| *uncounted > 0 && last_record > 0)
 }
 
 /// A start at the moment `begun` may be more than a day behind the last record: of that time a day counts. A book says so, so
@@ -100,9 +100,9 @@ mod tests {
 
     #[test]
     fn a_day_of_a_jump_counts() {
-        assert_eq!(uncounted(1, 1 + COUNTED), None);
-        assert_eq!(uncounted(1, 2 + COUNTED), Some(1));
-        assert_eq!(uncounted(0, 2 + COUNTED), None, "there is no record");
+        assert_eq!(uncounted(1, 1 + COUNTED_MILLISECONDS), None);
+        assert_eq!(uncounted(1, 2 + COUNTED_MILLISECONDS), Some(1));
+        assert_eq!(uncounted(0, 2 + COUNTED_MILLISECONDS), None, "there is no record");
         assert_eq!(uncounted(9, 5), None);
     }
 }

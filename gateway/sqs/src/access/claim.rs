@@ -21,7 +21,7 @@ const SKEW: Duration = Duration::from_secs(5 * 60);
 
 /// So long a presigned request is good at most, in seconds: seven days (Amazon S3 API Reference, "Authenticating
 /// requests: using query parameters").
-const LONGEST_PRESIGNED: u64 = 604_800;
+const LONGEST_PRESIGNED_SECONDS: u64 = 604_800;
 
 /// The members of a query string that make a presigned request.
 const PRESIGNED: [&str; 6] =
@@ -271,8 +271,8 @@ fn signed_headers(text: &str) -> Result<Vec<String>, SqsError> {
 
 fn expires(text: &str) -> Result<Duration, SqsError> {
     let has_digits = text.len() <= 6 && text.bytes().all(|byte| byte.is_ascii_digit());
-    let seconds = text.parse().ok().filter(|seconds| has_digits && (1..=LONGEST_PRESIGNED).contains(seconds));
-    let message = || incomplete(&format!("X-Amz-Expires must be between 1 and {LONGEST_PRESIGNED} seconds."));
+    let seconds = text.parse().ok().filter(|seconds| has_digits && (1..=LONGEST_PRESIGNED_SECONDS).contains(seconds));
+    let message = || incomplete(&format!("X-Amz-Expires must be between 1 and {LONGEST_PRESIGNED_SECONDS} seconds."));
     seconds.map(Duration::from_secs).ok_or_else(message)
 }
 

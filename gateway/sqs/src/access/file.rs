@@ -10,13 +10,13 @@ use super::identity::Identity;
 use crate::action::Action;
 
 /// The longest access key, in characters.
-const LONGEST_KEY: usize = 128;
+const LONGEST_KEY_CHARACTERS: usize = 128;
 
 /// The shortest secret, in characters.
-const SHORTEST_SECRET: usize = 8;
+const SHORTEST_SECRET_CHARACTERS: usize = 8;
 
 /// The longest name of a queue, in characters.
-const LONGEST_NAME: usize = 80;
+const LONGEST_NAME_CHARACTERS: usize = 80;
 
 /// What an access key signs with. It is never shown.
 #[derive(Clone, PartialEq, Eq)]
@@ -78,9 +78,9 @@ pub enum RowFault {
     NotList(&'static str),
     #[error("{0} is an empty list; all are allowed where it is left out")]
     EmptyList(&'static str),
-    #[error("access_key is not 1 to {LONGEST_KEY} letters, digits, hyphens and underscores of ASCII")]
+    #[error("access_key is not 1 to {LONGEST_KEY_CHARACTERS} letters, digits, hyphens and underscores of ASCII")]
     AccessKey,
-    #[error("secret has fewer than {SHORTEST_SECRET} characters")]
+    #[error("secret has fewer than {SHORTEST_SECRET_CHARACTERS} characters")]
     ShortSecret,
     #[error("no queue's name can begin as number {0} of queues says")]
     Prefix(usize),
@@ -120,7 +120,7 @@ pub fn parse(text: &str) -> Result<BTreeMap<String, (Identity, Secret)>, Fault> 
 fn access_key(row: &Table) -> Result<String, RowFault> {
     let access_key = text(row, "access_key")?;
     let is_good = |byte: u8| byte.is_ascii_alphanumeric() || byte == b'-' || byte == b'_';
-    let has_form = (1..=LONGEST_KEY).contains(&access_key.len()) && access_key.bytes().all(is_good);
+    let has_form = (1..=LONGEST_KEY_CHARACTERS).contains(&access_key.len()) && access_key.bytes().all(is_good);
     has_form.then(|| access_key.to_string()).ok_or(RowFault::AccessKey)
 }
 
@@ -130,7 +130,7 @@ fn key(access_key: &str, row: &Table) -> Result<(Identity, Secret), RowFault> {
         return Err(RowFault::Unknown(unknown.clone()));
     }
     let secret = text(row, "secret")?;
-    if secret.chars().count() < SHORTEST_SECRET {
+    if secret.chars().count() < SHORTEST_SECRET_CHARACTERS {
         return Err(RowFault::ShortSecret);
     }
     let queues = list(row, "queues", |prefix| can_begin_a_name(prefix).then(|| prefix.into()), RowFault::Prefix)?;
@@ -165,5 +165,8 @@ fn list<T>(
 fn can_begin_a_name(prefix: &str) -> bool {
     let (stem, suffix) = prefix.split_at(prefix.find('.').unwrap_or(prefix.len()));
     let is_good = |byte: u8| byte.is_ascii_alphanumeric() || byte == b'-' || byte == b'_';
-    !stem.is_empty() && prefix.len() <= LONGEST_NAME && stem.bytes().all(is_good) && ".fifo".starts_with(suffix)
+    !stem.is_empty()
+        && prefix.len() <= LONGEST_NAME_CHARACTERS
+        && stem.bytes().all(is_good)
+        && ".fifo".starts_with(suffix)
 }

@@ -14,7 +14,7 @@ pub struct Members<'m, 'a>(pub &'m Map<'a>);
 
 /// The longest text in a list: the key of a tag has 128 characters of up to four bytes each, and the name of a message
 /// attribute 256 bytes, with a star behind it.
-const LONGEST_NAME: usize = 512;
+const LONGEST_NAME_BYTES: usize = 512;
 
 fn wrong(message: String) -> SqsError {
     SqsError::InvalidParameterValue(message)
@@ -71,7 +71,7 @@ impl<'m, 'a> Members<'m, 'a> {
         good.map(Some).ok_or_else(|| SqsError::out_of_range(&shown, name, least, most))
     }
 
-    /// A list of texts, `most` at most and each with at most [`LONGEST_NAME`] bytes; none where it is missing.
+    /// A list of texts, `most` at most and each with at most [`LONGEST_NAME_BYTES`] bytes; none where it is missing.
     pub fn texts(&self, name: &str, most: usize) -> Result<Vec<String>, SqsError> {
         let not_texts = || wrong_kind(format!("{name} must be a list of strings."));
         match self.0.get(name) {
@@ -82,8 +82,8 @@ impl<'m, 'a> Members<'m, 'a> {
             Some(Value::List(list)) => list
                 .iter()
                 .map(|value| match value {
-                    Value::Text(text) if text.len() > LONGEST_NAME => {
-                        Err(wrong(format!("A part of {name} has at most {LONGEST_NAME} bytes.")))
+                    Value::Text(text) if text.len() > LONGEST_NAME_BYTES => {
+                        Err(wrong(format!("A part of {name} has at most {LONGEST_NAME_BYTES} bytes.")))
                     }
                     Value::Text(text) => Ok(text.to_string()),
                     _ => Err(not_texts()),

@@ -18,13 +18,14 @@ use crate::errors::SqsError;
 const CONTENT_TYPE: &str = "text/xml";
 
 /// A request by which a client asks who it is has at most so many bytes.
-const LONGEST_WHO: usize = 4096;
+const LONGEST_WHO_BYTES: usize = 4096;
 
 /// Whether this is GetCallerIdentity, an action of another service, which Terraform asks for (Security Token Service API
 /// Reference).
 pub fn asks_who(incoming: &Incoming<'_>) -> bool {
     let forms = forms_of(incoming);
-    let is_small = incoming.path_queue.is_none() && forms.iter().map(|form| form.len()).sum::<usize>() <= LONGEST_WHO;
+    let is_small =
+        incoming.path_queue.is_none() && forms.iter().map(|form| form.len()).sum::<usize>() <= LONGEST_WHO_BYTES;
     let fields = || forms.into_iter().flat_map(form_urlencoded::parse);
     is_small
         && fields().filter(|(name, _)| name == "Action").last().is_some_and(|(_, value)| value == "GetCallerIdentity")

@@ -361,7 +361,7 @@ fn test_tag(key: &str, value: &str) -> Result<(), SqsError> {
 }
 
 /// The longest visibility timeout, in seconds.
-const LONGEST_TIMEOUT: i64 = 43_200;
+const LONGEST_TIMEOUT_SECONDS: i64 = 43_200;
 
 /// Tests the members of a request.
 pub fn read(action: Action, members: &Map<'_>) -> Result<Request, SqsError> {
@@ -473,7 +473,7 @@ fn receive(kind: QueueKind, members: Members<'_, '_>) -> Result<Receive, SqsErro
     };
     Ok(Receive {
         size: members.number("MaxNumberOfMessages", 1, 10)?.unwrap_or(1) as u8,
-        visibility: members.number("VisibilityTimeout", 0, LONGEST_TIMEOUT)?,
+        visibility: members.number("VisibilityTimeout", 0, LONGEST_TIMEOUT_SECONDS)?,
         wait: members.number("WaitTimeSeconds", 0, 20)?,
         attempt: attempt.map(AttemptId::parse).transpose()?,
         shown: Shown::read(members)?,
@@ -513,7 +513,7 @@ fn change(members: Members<'_, '_>) -> Result<VisibilityChange, SqsError> {
 }
 
 fn change_entry(members: Members<'_, '_>) -> Result<VisibilityChange, SqsError> {
-    let visibility = members.number("VisibilityTimeout", 0, LONGEST_TIMEOUT)?;
+    let visibility = members.number("VisibilityTimeout", 0, LONGEST_TIMEOUT_SECONDS)?;
     Ok(VisibilityChange { handle: handle(members)?, visibility })
 }
 

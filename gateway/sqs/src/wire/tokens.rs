@@ -3,7 +3,7 @@
 use crate::errors::SqsError;
 
 /// The bytes of a checksum behind the name.
-const CHECK: usize = 4;
+const CHECK_BYTES: usize = 4;
 
 /// The token of a list that goes on behind this name. It never begins with `-`, which the AWS CLI takes for an option: names have
 /// letters, numbers, hyphens and underscores, of which none stands first so.
@@ -18,7 +18,7 @@ pub fn name_before(token: &str) -> Result<String, SqsError> {
         return Ok(String::new());
     }
     let decoded = base64::decode_config(token, base64::URL_SAFE_NO_PAD).unwrap_or_default();
-    let name = decoded.len().checked_sub(CHECK).and_then(|length| std::str::from_utf8(&decoded[..length]).ok());
+    let name = decoded.len().checked_sub(CHECK_BYTES).and_then(|length| std::str::from_utf8(&decoded[..length]).ok());
     let found = name.filter(|name| !name.is_empty() && token_behind(name) == token).map(str::to_owned);
     found.ok_or_else(|| SqsError::InvalidParameterValue(format!("Value {token} for parameter NextToken is invalid.")))
 }

@@ -1,59 +1,30 @@
-//! Answers: what the program said, and who is told.
+//! Answers: what was heard, and who is told.
 
 use hobbychair_bytes::values::StoreReply;
 use hobbychair_sqs::errors::SqsError;
 use hobbychair_tables::ask::{Ask, Outcome};
-use tokio::time::Instant;
 
-use super::chain::Chain;
-use super::entries::{Entry, Open, OpenAsk};
-use super::{Ended, Task};
+use super::Task;
+use crate::backend::{Ended, Heard};
+use crate::exchange::{Entry, Open, OpenAsk};
 use crate::jobs::{Answer, AnswerSender};
 
 impl Task {
     pub(super) fn read_answers(&mut self) -> Result<(), Ended> {
-        match self.chain {
-            Some(_) => self.read_frames(),
-            None => self.read_responses(),
+        while let Some(heard) = self.backend.hear(&mut self.exchange)? {
+            match heard {
+                Heard::Nothing => {}
+                Heard::Answer(reply) => self.answered(reply),
+                Heard::Refused(asks) => self.refused(asks),
+            }
+            self.finish_ready();
         }
+        Ok(())
     }
 
-    /// When there is something to ask again.
-    pub(super) fn due(&self) -> Option<Instant> {
-        self.chain.as_ref().map_or_else(|| self.server.due(), Chain::due)
-    }
-
-    pub(super) fn ask_what_is_due(&mut self) {
-        match self.chain {
-            Some(_) => self.ask_chain_what_is_due(),
-            None => self.give_what_is_due(),
-        }
-    }
-
-    /// Whether nothing new is asked: what is open is to be asked again first.
-    pub(super) fn is_stopped(&self) -> bool {
-        self.is_chain_stopped() || self.server.is_stopped()
-    }
-
-    /// Takes the entry at the front, if that is the one which the program answers. One that it doesn't answer stays open:
-    /// it is asked again when the program has been started again.
-    fn take_next(&mut self, is_answered: impl FnOnce(&Entry) -> bool) -> Option<Open> {
-        match self.open.front() {
-            Some(open) if is_answered(&open.entry) => self.open.pop_front(),
-            _ => None,
-        }
-    }
-
-    pub(super) fn answered(&mut self, client: u32, number: u64, reply: StoreReply) -> Result<(), Ended> {
-        let is_answered = |entry: &Entry| match entry {
-            Entry::Ask(asked) => (asked.client, asked.number) == (client, number),
-            Entry::Moment { number: own, .. } => *own == number,
-            Entry::Probe { tag, .. } | Entry::Count { tag, .. } => *tag == number,
-            Entry::Ready(_) => false,
-        };
-        let Some(Open { entry, sender }) = self.take_next(is_answered) else {
-            return Err(Ended::NotNext { client, number });
-        };
+    /// The entry at the front is answered.
+    fn answered(&mut self, reply: StoreReply) {
+        let Some(Open { entry, sender }) = self.exchange.open.pop_front() else { return };
         match entry {
             Entry::Ask(mut asked) => {
                 self.close(&asked);
@@ -65,7 +36,6 @@ impl Task {
                 self.go_on_with(&asked, is_done);
             }
             Entry::Moment { .. } => {
-                self.moment_answered();
                 if sender.is_some() {
                     self.finish(Ok(Outcome::Done), sender);
                 }
@@ -82,11 +52,20 @@ impl Task {
             }
             Entry::Ready(_) => {}
         }
-        Ok(())
+    }
+
+    /// These asks did nothing, and their entries have their answers. To be refused something is an answer, too.
+    fn refused(&mut self, asks: Vec<OpenAsk>) {
+        self.ends = 0;
+        for asked in asks {
+            self.close(&asked);
+            self.shared.admission.answered(asked.weight);
+            self.go_on_with(&asked, false);
+        }
     }
 
     /// Goes on with the move of which this was a copy, if it was one.
-    pub(super) fn go_on_with(&mut self, asked: &OpenAsk, is_done: bool) {
+    fn go_on_with(&mut self, asked: &OpenAsk, is_done: bool) {
         if let Some(original) = asked.original {
             self.copy_answered(original, is_done);
         }
@@ -96,20 +75,20 @@ impl Task {
     /// between two answers, and never between an ask and its answer.
     fn complete(&self, asked: &mut OpenAsk) {
         if let Ask::Receive { most, reach, .. } = &mut asked.ask {
-            let target = reach.is_for_client().then(|| self.queues.target_of(&asked.queue)).flatten();
+            let target = reach.is_for_client().then(|| self.shared.queues.target_of(&asked.queue)).flatten();
             *most = target.map(|(_, most)| most);
         }
     }
 
     /// Applies the reply to the tables.
     fn apply(&mut self, asked: &OpenAsk, reply: StoreReply) -> Answer {
-        let applied = self.queues.apply_reply(self.shard.place(), &asked.queue, &asked.ask, reply, asked.moment);
-        self.admission.answered(asked.weight);
+        let applied = self.shared.queues.apply_reply(self.shard.place(), &asked.queue, &asked.ask, reply, asked.moment);
+        self.shared.admission.answered(asked.weight);
         applied
     }
 
     /// The program has answered this one.
-    pub(super) fn close(&mut self, asked: &OpenAsk) {
+    fn close(&mut self, asked: &OpenAsk) {
         self.clients.give_back(asked.client);
         self.forget_open(&asked.ask);
         self.waits_for_answer = false;
@@ -122,10 +101,11 @@ impl Task {
 
     /// Finishes the entries at the front that need no answer of the store.
     pub(super) fn finish_ready(&mut self) {
-        while let Some(Open { entry, sender }) = self.take_next(|entry| matches!(entry, Entry::Ready(_))) {
-            match entry {
-                Entry::Ready(Some(answer)) => self.finish(answer, sender),
-                _ => self.finish_job(sender),
+        while let Some(Open { entry: Entry::Ready(_), .. }) = self.exchange.open.front() {
+            match self.exchange.open.pop_front() {
+                Some(Open { entry: Entry::Ready(Some(answer)), sender }) => self.finish(answer, sender),
+                Some(Open { sender, .. }) => self.finish_job(sender),
+                None => {}
             }
         }
     }
@@ -137,7 +117,7 @@ impl Task {
         }
     }
 
-    pub(super) fn finish_job(&mut self, sender: Option<AnswerSender>) {
+    fn finish_job(&mut self, sender: Option<AnswerSender>) {
         if let Some(sender) = sender {
             self.finished.push((sender, std::mem::take(&mut self.answers)));
         }

@@ -3,9 +3,6 @@
 /// There are so many, from 1 on.
 pub(super) const CLIENTS: u32 = 256;
 
-/// The client under which counts and moments are asked for.
-pub(super) const COUNTER: u32 = 0;
-
 /// So many of them read the parts of messages, and nothing else: the program keeps the last reply to each client.
 const READERS: u32 = 8;
 

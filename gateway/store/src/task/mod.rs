@@ -1,100 +1,35 @@
-//! The task that owns the pipe of a program, or of a node: it writes all asks that wait with one call, reads answers in large
+//! The task that owns the pipe of what keeps the store: it writes all asks that wait with one call, reads answers in large
 //! pieces, and hands each to who asked.
 
 mod answering;
-mod chain;
 mod clients;
-mod entries;
 mod moving;
-mod outgoing;
-mod server;
 mod space;
 mod starting;
 
-use std::collections::{HashMap, VecDeque};
-use std::path::PathBuf;
-use std::sync::Arc;
+use std::collections::VecDeque;
 use std::time::Duration;
 
-use bytes::BytesMut;
-use hobbychair_bytes::moment::Moment;
-use hobbychair_bytes::parts::{make_room, Malformed};
-use hobbychair_bytes::values::{BadFrame, Part, StoreReader};
 use hobbychair_sqs::errors::SqsError;
-use hobbychair_tables::clock::Clock;
 use hobbychair_tables::queue::Queue;
-use hobbychair_tables::queues::Queues;
 use hobbychair_tables::shards::{Shard, Shards};
-use thiserror::Error;
 use tokio::io::{AsyncReadExt, AsyncWriteExt};
 use tokio::sync::mpsc;
 use tokio::time::Instant;
 
-use crate::admission::Admission;
-use crate::cq::{Cq, CqError, KeptFile, Making};
-use crate::figures::Counters;
+use crate::backend::{Backend, Ended, StartedPipe};
+use crate::cq::{Cq, CqError};
+use crate::exchange::{Entry, Exchange, Open, OpenAsk};
 use crate::jobs::{AnswerSender, Answers, Hold, Holds, Job, Operation};
+use crate::shared::Shared;
 use crate::store::Store;
-use crate::told::{self, ToldError};
-use chain::Chain;
 use clients::{Clients, CLIENTS};
-use entries::{Entry, Open, OpenAsk, Pending};
 use moving::Moving;
-use outgoing::Outgoing;
-use server::Server;
 use space::Space;
-
-/// Why the store doesn't go on.
-#[derive(Debug, Error)]
-pub enum Ended {
-    #[error(transparent)]
-    Cq(#[from] CqError),
-    #[error(transparent)]
-    BadFrame(#[from] BadFrame),
-    #[error("cq answered client {client}'s request {number}, which isn't the next one")]
-    NotNext { client: u32, number: u64 },
-    #[error("cq is done with request {0}, and gave no answer")]
-    Unanswered(u64),
-    #[error("an entry of the book can't be written: {0}")]
-    Entry(#[from] serde_json::Error),
-    #[error("the node and this gateway don't understand each other: {0}")]
-    Malformed(#[from] Malformed),
-    #[error("a server can't read a request ({0})")]
-    Unread(u32),
-    #[error(transparent)]
-    Told(#[from] ToldError),
-    /// A program isn't started again on its file.
-    #[error("{}: {why}", .file.display())]
-    NotStartedAgain { file: PathBuf, why: ToldError },
-    #[error("{} is gone: it was removed or renamed while the gateway ran", .0.display())]
-    FileGone(PathBuf),
-    /// What was acknowledged isn't there.
-    #[error(
-        "{} has {found} requests, and {heard} were kept there: while the gateway ran, another file took its place, or it was changed",
-        .file.display()
-    )]
-    FileChanged { file: PathBuf, found: u64, heard: u64 },
-    /// All copies of the store are gone.
-    #[error("nobody asks any more")]
-    NobodyAsks,
-    /// What was asked is done, and its answer can't be had.
-    #[error("cq has no room left to answer what it did before it ended: its journal is full")]
-    Full,
-}
-
-impl Ended {
-    /// Whether the program is gone, or as good as that: another one may do better.
-    fn is_of_program(&self) -> bool {
-        match self {
-            Ended::Cq(_) | Ended::BadFrame(_) | Ended::NotNext { .. } | Ended::Unanswered(_) => true,
-            Ended::NotStartedAgain { why, .. } => why.is_end_before_ready(),
-            _ => false,
-        }
-    }
-}
+use starting::Pending;
 
 /// No more is gathered for the pipe at once.
-const PIECE: usize = 256 * 1024;
+const PIECE_BYTES: usize = 256 * 1024;
 
 /// A program that ends so often and answers nothing in between isn't started again. What an ask does to it each time
 /// doesn't add up, however often that is asked: behind one that is given up the program is asked for something else.
@@ -105,31 +40,19 @@ const MOST_ENDS: u32 = 2;
 
 struct Task {
     shard: Shard,
-    program: String,
-    patience: Duration,
-    cq: Cq,
-    queues: Arc<Queues>,
-    clock: Arc<Clock>,
-    /// What is known of a chain that keeps the store, where one does.
-    chain: Option<Chain>,
-    /// What is known of the program, where one keeps the store.
-    server: Server,
-    /// Where the program keeps its entries, if it does.
-    file: Option<KeptFile>,
+    pipe: Cq,
+    /// What keeps the store, and has the other end of the pipe.
+    backend: Backend,
+    shared: Shared,
     space: Space,
-    admission: Arc<Admission>,
-    counters: Arc<Counters>,
     /// How many open requests the counters know of.
     open_counted: usize,
     pending: VecDeque<Pending>,
     held: Holds,
     /// Copies that are with the program, and whose originals go before anything else is asked.
     moving: Option<Moving>,
-    open: VecDeque<Open>,
+    exchange: Exchange,
     clients: Clients,
-    last_number: u64,
-    out: Outgoing,
-    incoming: BytesMut,
     /// The answers of the job at the front that are there.
     answers: Answers,
     /// The jobs whose answers are all there.
@@ -141,92 +64,19 @@ struct Task {
     ends: u32,
 }
 
-/// What a store is started with.
-pub struct Start {
-    pub program: String,
-    /// So long an answer of a program may take.
-    pub patience: Duration,
-    pub shards: Shards,
-    /// One for each shard.
-    pub cqs: Vec<Cq>,
-    /// Where a chain keeps the store: its node.
-    pub node: Option<NodeStart>,
-    pub queues: Arc<Queues>,
-    pub clock: Arc<Clock>,
-    /// Of programs that keep their entries: where, and how they began.
-    pub kept: Option<Kept>,
-    /// The bound of memory, in bytes.
-    pub memory: Option<u64>,
-}
-
-/// What is known of a node at the start.
-pub struct NodeStart {
-    /// Its server's number, or 0 as long as that isn't known to be the head.
-    pub server: u32,
-    /// The moments of the last entry before the chain stood still and was recovered, and when it went on; nothing where it
-    /// wasn't.
-    pub paused: Option<(Moment, Moment)>,
-    /// What was read of it already.
-    pub incoming: BytesMut,
-}
-
-/// What is known of programs that keep their entries.
-pub struct Kept {
-    pub files: Vec<KeptFile>,
-    /// The largest number of a request that each was given, by its place.
-    pub begun: Vec<u64>,
-    /// How many entries the store of each has, by its place; none where that isn't known.
-    pub entries: Vec<u64>,
-}
-
 /// Why tasks have ended, one after the other. It comes to its end once all of them and their programs have.
 pub type Ends = mpsc::UnboundedReceiver<Ended>;
 
 /// Starts the tasks, one for each shard.
-pub fn start(mut start: Start) -> (Store, Ends) {
-    let admission = Arc::new(Admission::new(start.queues.clone(), start.memory));
-    let counters = Arc::new(Counters::default());
+pub fn start(shards: Shards, pipes: Vec<StartedPipe>, shared: Shared) -> (Store, Ends) {
     let (ended, reasons) = mpsc::unbounded_channel();
-    let (mut jobs, is_kept, is_of_chain) = (Vec::new(), start.kept.is_some(), start.node.is_some());
-    for (cq, shard) in start.cqs.into_iter().zip(start.shards.all()) {
+    let is_kept = pipes.iter().all(|started| started.backend.is_kept());
+    let is_of_chain = pipes.iter().any(|started| started.backend.may_be_superseded());
+    let mut jobs = Vec::new();
+    for (started, shard) in pipes.into_iter().zip(shards.all()) {
         let (queue, waiting) = mpsc::unbounded_channel();
         jobs.push(queue);
-        let begun = start.kept.as_ref().and_then(|kept| kept.begun.get(shard.place()).copied());
-        // Numbers in use begin above all that any earlier run can have used.
-        let largest = begun.unwrap_or_else(|| start.clock.now() << 20);
-        let last_number = start.node.as_ref().map_or(largest, |node| chain::number_before(largest, node.server));
-        let file = start.kept.as_ref().and_then(|kept| kept.files.get(shard.place()).cloned());
-        let entries = start.kept.as_ref().and_then(|kept| kept.entries.get(shard.place()).copied());
-        let length = file.as_ref().and_then(|file| std::fs::metadata(&file.path).ok()).map(|found| found.len());
-        let mut task = Task {
-            shard,
-            program: start.program.clone(),
-            patience: start.patience,
-            cq,
-            queues: start.queues.clone(),
-            clock: start.clock.clone(),
-            chain: start.node.is_some().then(Chain::default),
-            server: Server::of(entries.unwrap_or(0)),
-            file,
-            space: Space::new(length),
-            admission: admission.clone(),
-            counters: counters.clone(),
-            open_counted: 0,
-            pending: VecDeque::new(),
-            held: Holds::new(),
-            moving: None,
-            open: VecDeque::new(),
-            clients: Clients::new(),
-            last_number,
-            out: Outgoing::default(),
-            incoming: start.node.as_mut().map(|node| std::mem::take(&mut node.incoming)).unwrap_or_default(),
-            answers: Vec::new(),
-            finished: Vec::new(),
-            waits_for_answer: false,
-            open_visibility_changes: 0,
-            ends: 0,
-        };
-        let ended = ended.clone();
+        let (mut task, ended) = (Task::new(shard, started, shared.clone()), ended.clone());
         tokio::spawn(async move {
             let why = task.run(waiting).await;
             drop(task);
@@ -234,20 +84,33 @@ pub fn start(mut start: Start) -> (Store, Ends) {
             let _ = ended.send(why);
         });
     }
-    let store = Store {
-        jobs: jobs.into(),
-        shards: start.shards,
-        queues: start.queues,
-        clock: start.clock,
-        is_kept,
-        is_of_chain,
-        admission,
-        counters,
-    };
-    (store, reasons)
+    (Store { jobs: jobs.into(), shards, shared, is_kept, is_of_chain }, reasons)
 }
 
 impl Task {
+    fn new(shard: Shard, started: StartedPipe, shared: Shared) -> Task {
+        let StartedPipe { pipe, backend, incoming } = started;
+        let file_length = backend.file().and_then(|file| std::fs::metadata(file).ok()).map(|found| found.len());
+        Task {
+            shard,
+            pipe,
+            space: Space::new(file_length),
+            backend,
+            shared,
+            open_counted: 0,
+            pending: VecDeque::new(),
+            held: Holds::new(),
+            moving: None,
+            exchange: Exchange { incoming, ..Exchange::default() },
+            clients: Clients::new(),
+            answers: Vec::new(),
+            finished: Vec::new(),
+            waits_for_answer: false,
+            open_visibility_changes: 0,
+            ends: 0,
+        }
+    }
+
     async fn run(&mut self, mut jobs: mpsc::UnboundedReceiver<Job>) -> Ended {
         loop {
             match self.turn(&mut jobs).await {
@@ -264,15 +127,14 @@ impl Task {
     /// Starts the program again, also where it ends before it has read its file, as often as it may end in a row. An error says why it
     /// isn't started any more.
     async fn go_on_behind(&mut self, mut ended: Ended) -> Result<(), Ended> {
-        loop {
-            let may_go_on = ended.is_of_program() && self.ends < MOST_ENDS_IN_A_ROW;
-            let Some(file) = self.file.clone().filter(|_| may_go_on) else { return Err(ended) };
+        while ended.is_of_program() && self.ends < MOST_ENDS_IN_A_ROW && self.backend.file().is_some() {
             tracing::error!("{ended}");
-            match self.start_again_on(&file).await {
+            match self.start_again().await {
                 Ok(()) => return Ok(()),
                 Err(again) => ended = again,
             }
         }
+        Err(ended)
     }
 
     /// Waits for one thing to happen, and does what follows from it.
@@ -281,21 +143,21 @@ impl Task {
         self.finish_ready();
         self.send_answers();
         self.count_open();
-        self.cq.output.is_awaited = !self.open.is_empty();
-        let due = self.due();
+        self.pipe.output.is_awaited = !self.exchange.open.is_empty();
+        let due = self.backend.due();
         tokio::select! {
             biased;
-            read = self.cq.output.read_buf(&mut self.incoming) => match read {
-                Ok(0) => return Err(self.cq.end().await.into()),
+            read = self.pipe.output.read_buf(&mut self.exchange.incoming.buffer) => match read {
+                Ok(0) => return Err(self.pipe.end().await.into()),
                 Ok(_) => self.read_answers()?,
                 Err(error) => return Err(CqError::Gone(error.to_string()).into()),
             },
-            written = self.cq.input.write(self.out.rest()), if !self.out.is_empty() => match written {
-                Ok(count) => self.out.advance(count),
+            written = self.pipe.input.write(self.exchange.out.rest()), if !self.exchange.out.is_empty() => match written {
+                Ok(count) => self.exchange.out.advance(count),
                 // The end of its output tells how it ended.
-                Err(_) => self.out.clear(),
+                Err(_) => self.exchange.out.clear(),
             },
-            () = wait_until(due), if due.is_some() => self.ask_what_is_due(),
+            () = wait_until(due), if due.is_some() => self.backend.tick(&mut self.exchange),
             job = jobs.recv(), if self.pending.len() < 4 * CLIENTS as usize => {
                 let Some(job) = job else { return Err(Ended::NobodyAsks) };
                 self.take(job);
@@ -306,13 +168,13 @@ impl Task {
                 }
             }
         }
-        make_room(&mut self.incoming);
+        self.exchange.incoming.make_room();
         Ok(())
     }
 
     fn count_open(&mut self) {
-        let open = self.pending.len() + self.open.len();
-        self.counters.count_open(self.open_counted, open);
+        let open = self.pending.len() + self.exchange.open.len();
+        self.shared.counters.count_open(self.open_counted, open);
         self.open_counted = open;
     }
 
@@ -371,35 +233,16 @@ impl Task {
 
     /// Starts a program again that keeps its entries, and asks what is open once more, as it was asked the first time: what
     /// was done by then has its kept reply. So the tables stay what they are.
-    async fn start_again_on(&mut self, file: &KeptFile) -> Result<(), Ended> {
+    async fn start_again(&mut self) -> Result<(), Ended> {
         self.ends += 1;
-        self.counters.count_restart();
+        self.shared.counters.count_restart();
         tokio::time::sleep(pause(self.ends)).await;
         self.send_answers();
-        self.cq.stop().await;
-        let (mut reader, mut numbers) = (StoreReader::default(), HashMap::new());
-        let mut take = |chunk: &[u8]| {
-            let read = reader.feed(chunk, |part| {
-                if let Part::Client { client, number, .. } = part {
-                    numbers.insert(client, number);
-                }
-            });
-            Ok(read?)
-        };
-        // Whatever stands there now, no journal is made.
-        let file = KeptFile { making: Making::Refused, ..file.clone() };
-        let started = told::start(&self.program, &file, self.patience, Some(&mut take)).await;
-        let ready = started.map_err(|why| why_not_started(file.path.clone(), why))?;
-        let heard = self.server.entries();
-        if ready.entries < heard {
-            return Err(Ended::FileChanged { file: file.path, found: ready.entries, heard });
-        }
-        (self.cq, self.server) = (ready.cq, Server::of(ready.entries));
-        self.incoming.clear();
-        self.out.clear();
+        let kept = self.backend.start_again(&mut self.pipe).await?;
+        self.exchange.incoming.buffer.clear();
+        self.exchange.out.clear();
         self.waits_for_answer = false;
-        let is_done = |asked: &OpenAsk| numbers.get(&asked.client) == Some(&asked.number);
-        self.ask_all_again(is_done);
+        self.ask_all_again(|asked| kept.get(&asked.client) == Some(&asked.number));
         tracing::warn!("cq was started again, and is where its journal is");
         Ok(())
     }
@@ -408,50 +251,43 @@ impl Task {
     fn ask_all_again(&mut self, is_done: impl Fn(&OpenAsk) -> bool) {
         let mut given_up = None;
         let mut copies_given_up = Vec::new();
-        for open in std::mem::take(&mut self.open) {
+        for open in std::mem::take(&mut self.exchange.open) {
             let entry = match self.repeat(open.entry, &is_done) {
-                Again::Open(entry) => entry,
-                Again::GivenUp(queue, original) => {
-                    given_up = Some(queue);
-                    copies_given_up.extend(original);
+                Ok(entry) => entry,
+                Err(asked) => {
+                    given_up = Some(asked.queue);
+                    copies_given_up.extend(asked.original);
                     let message = "The store ended twice at this request.";
                     Entry::Ready(Some(Err(SqsError::InternalFailure(message.into()))))
                 }
             };
-            self.open.push_back(Open { entry, sender: open.sender });
+            self.exchange.open.push_back(Open { entry, sender: open.sender });
         }
         for original in copies_given_up {
             self.copy_answered(original, false);
         }
         if let Some(queue) = given_up {
-            let entry = self.probe(queue);
-            self.open.push_back(Open { entry, sender: None });
+            // Something that changes nothing, to see whether the program answers it.
+            let tag = self.backend.next_number();
+            self.open_entry(Entry::Probe { tag, queue });
         }
     }
 
-    /// Asks once more, under the same number. What the program has done isn't given up: it has its kept reply.
-    fn repeat(&mut self, entry: Entry, is_done: impl Fn(&OpenAsk) -> bool) -> Again {
+    /// Asks once more, under the same number and with its first clock. An error is an ask that is given up, since it was open at
+    /// an end before. What the program has done isn't: it has its kept reply.
+    fn repeat(&mut self, mut entry: Entry, is_done: impl Fn(&OpenAsk) -> bool) -> Result<Entry, Box<OpenAsk>> {
+        if let Entry::Ask(asked) = &mut entry {
+            asked.ends += 1;
+            asked.is_done = is_done(asked);
+        }
         match entry {
-            Entry::Ask(mut asked) => {
-                asked.ends += 1;
-                asked.is_done = is_done(&asked);
-                if asked.ends >= MOST_ENDS && !asked.is_done {
-                    self.clients.give_back(asked.client);
-                    self.forget_open(&asked.ask);
-                    self.admission.answered(asked.weight);
-                    return Again::GivenUp(asked.queue, asked.original);
-                }
-                self.write(&asked);
-                Again::Open(Entry::Ask(asked))
+            Entry::Ask(asked) if asked.ends >= MOST_ENDS && !asked.is_done => {
+                self.clients.give_back(asked.client);
+                self.forget_open(&asked.ask);
+                self.shared.admission.answered(asked.weight);
+                Err(asked)
             }
-            // Whatever is asked behind it has its first clock, too.
-            Entry::Moment { moment, number } => Again::Open(self.moment_at(moment, number)),
-            entry => {
-                if let Entry::Count { tag, queue, .. } | Entry::Probe { tag, queue } = &entry {
-                    self.write_count(*tag, queue);
-                }
-                Again::Open(entry)
-            }
+            entry => Ok(self.given(entry)),
         }
     }
 }
@@ -463,24 +299,7 @@ async fn wait_until(moment: Option<Instant>) {
     }
 }
 
-/// What comes of an entry that was open when the program ended.
-enum Again {
-    Open(Entry),
-    /// It was open at an end before, too. It was asked of this queue, and may be a copy.
-    GivenUp(Arc<Queue>, Option<u64>),
-}
-
 /// Starts wait longer each time, up to five seconds. The first one doesn't wait.
 fn pause(ends: u32) -> Duration {
     Duration::from_millis((10 * u64::from(ends - 1).pow(2)).min(5_000))
-}
-
-/// Why a program isn't started again on its file.
-fn why_not_started(file: PathBuf, why: ToldError) -> Ended {
-    match why {
-        ToldError::Cq(CqError::FileMissing) => Ended::FileGone(file),
-        ToldError::Cq(_) | ToldError::BadFrame(_) => Ended::NotStartedAgain { file, why },
-        // These have the file's name.
-        ToldError::Image { .. } | ToldError::NoMemory(_) => why.into(),
-    }
 }

@@ -12,9 +12,9 @@ use hobbychair_tables::queue::Queue;
 use hobbychair_tables::store_name::StoreName;
 
 use super::clients::CLIENTS;
-use super::entries::{Entry, Open, OpenAsk, StartOutcome};
-use super::starting::stamped;
+use super::starting::{stamped, StartOutcome};
 use super::Task;
+use crate::exchange::{Entry, Open, OpenAsk};
 use crate::jobs::{AnswerSender, Copy, Operation};
 
 /// Copies that aren't all answered yet.
@@ -46,7 +46,7 @@ impl Task {
         if removed || copies.is_empty() {
             return StartOutcome::ready(Err(SqsError::QueueDoesNotExist));
         }
-        let moment = self.clock.now();
+        let moment = self.shared.clock.now();
         self.moving = Some(Moving { source, left: copies.len(), copied: Vec::new(), sender: sender.take() });
         for Copy { sequence, ask } in copies {
             let ask = stamped(ask, &target, moment);
@@ -59,11 +59,10 @@ impl Task {
     fn begin(&mut self, queue: Arc<Queue>, store: StoreName, ask: Ask, moment: Moment, original: Option<u64>) {
         // There are as many free clients as copies, and a copy that is answered frees its own.
         let client = self.clients.take(false).unwrap_or(CLIENTS);
-        let (number, written) = (self.next_number(), ask.written(store));
+        let (number, written) = (self.backend.next_number(), ask.written(store));
         let asked =
             OpenAsk { queue, ask, written, moment, client, number, weight: 0, ends: 0, is_done: false, original };
-        self.write(&asked);
-        self.open.push_back(Open { entry: Entry::Ask(Box::new(asked)), sender: None });
+        self.open_entry(Entry::Ask(Box::new(asked)));
     }
 
     /// A copy was answered, or given up. Behind the last one the originals go.
@@ -80,7 +79,7 @@ impl Task {
 
     fn delete_originals(&mut self) {
         let Some(Moving { source, copied, sender, .. }) = self.moving.take() else { return };
-        let moment = self.clock.now();
+        let moment = self.shared.clock.now();
         let store = source.state().entry.store;
         let mut is_begun = false;
         for original in copied {
@@ -90,10 +89,10 @@ impl Task {
             self.begin(source.clone(), store, ask, moment, None);
             is_begun = true;
         }
-        match self.open.back_mut().filter(|_| is_begun) {
+        match self.exchange.open.back_mut().filter(|_| is_begun) {
             Some(deletion) => deletion.sender = sender,
             // Behind copies that were given up, and are to be told yet.
-            None => self.open.push_back(Open { entry: Entry::Ready(None), sender }),
+            None => self.exchange.open.push_back(Open { entry: Entry::Ready(None), sender }),
         }
     }
 }

@@ -8,13 +8,13 @@ use std::time::Instant;
 use hobbychair_tables::limits::Bound;
 
 /// What a file has before its regions, and the length of one (`docs/JOURNAL.md`).
-const ROOT: u64 = 1 << 20;
-const REGION: u64 = 16 << 20;
+const ROOT_BYTES: u64 = 1 << 20;
+const REGION_BYTES: u64 = 16 << 20;
 
 /// A store may take a third of the regions. Of each so much is counted: its pieces don't fill a region, and what it takes is known
 /// by an estimate.
 const SHARE: u64 = 3;
-const COUNTED_OF_REGION: u64 = 12 << 20;
+const COUNTED_BYTES_OF_REGION: u64 = 12 << 20;
 
 /// What was added is looked at again once it is so small a part of that.
 const PARTS: u64 = 32;
@@ -37,7 +37,7 @@ impl Space {
     /// That of a file of so many bytes. None: there is no file, and no bound.
     pub(super) fn new(file: Option<u64>) -> Space {
         let bound = Bound::default();
-        bound.set(file.map(|bytes| bytes.saturating_sub(ROOT) / REGION / SHARE * COUNTED_OF_REGION));
+        bound.set(file.map(|bytes| bytes.saturating_sub(ROOT_BYTES) / REGION_BYTES / SHARE * COUNTED_BYTES_OF_REGION));
         Space { bound, counted: 0, added: 0, rests_until: None }
     }
 
@@ -59,9 +59,9 @@ impl Space {
         has_space
     }
 
-    /// Whether names that are gone may take so many bytes of it where another queue is made.
-    pub(super) fn takes_names(&self, bytes: u64) -> bool {
-        self.bound.takes_names(bytes)
+    /// Whether what is kept of queues that are gone may take so many bytes of it where another one is made.
+    pub(super) fn takes_gone(&self, bytes: u64) -> bool {
+        self.bound.takes_gone(bytes)
     }
 
     fn with(&self, more: u64) -> u64 {
@@ -77,14 +77,14 @@ mod tests {
 
     #[test]
     fn what_is_added_counts_from_one_look_to_the_next() {
-        const ADDED: u64 = 1_000_000;
+        const ADDED_BYTES: u64 = 1_000_000;
         let mut space = Space::new(Some(256 << 20));
         assert_eq!(space.bound.limit(), Some(60 << 20));
         let (mut looks, mut taken) = (0, 0);
         let mut take = |taken: u64| {
-            space.take(ADDED, || {
+            space.take(ADDED_BYTES, || {
                 looks += 1;
-                taken * ADDED
+                taken * ADDED_BYTES
             })
         };
         while take(taken) {
@@ -93,9 +93,9 @@ mod tests {
         // 95 % are used, and each 32nd part is looked at.
         assert!(taken == 59 && (25..40).contains(&looks), "{taken} {looks}");
         space.rests_until = Some(Instant::now() + Duration::from_secs(3600));
-        assert!(!space.take(ADDED, || 0), "it isn't looked at so soon");
+        assert!(!space.take(ADDED_BYTES, || 0), "it isn't looked at so soon");
         space.rests_until = Some(Instant::now());
-        assert!(space.take(ADDED, || 0));
+        assert!(space.take(ADDED_BYTES, || 0));
     }
 
     #[test]

@@ -1,25 +1,49 @@
-//! Starts operations: which are written to the program, and which are answered without it.
+//! Starts operations: which are asked of what keeps the store, and which are answered without it.
 
 use std::sync::Arc;
 
 use hobbychair_bytes::moment::Moment;
-use hobbychair_bytes::values::{append_query, append_request, Receipt, StoreAsk};
+use hobbychair_bytes::values::Receipt;
 use hobbychair_sqs::errors::SqsError;
 use hobbychair_sqs::texts::{DedupId, QueueKind};
 use hobbychair_tables::ask::{Ask, Cause, Outcome, TableChange};
 use hobbychair_tables::book::{self, AttemptRequest};
-use hobbychair_tables::limits::{GONE_NAME_BYTES, STORED_NAME_BYTES};
+use hobbychair_tables::limits::{GONE_NAME_BYTES, REMOVAL_BYTES, STORED_NAME_BYTES, STORED_REMOVAL_BYTES};
 use hobbychair_tables::queue::Queue;
 use hobbychair_tables::store_name::StoreName;
 
-use super::clients::COUNTER;
-use super::entries::{Entry, Open, OpenAsk, Pending, StartOutcome};
-use super::{chain, Ended, Task, PIECE};
-use crate::jobs::Operation;
+use super::{Task, PIECE_BYTES};
+use crate::backend::Ended;
+use crate::exchange::{Entry, Open, OpenAsk};
+use crate::jobs::{Answer, AnswerSender, Operation};
 use crate::room::{adds, refusal_for_room};
 
-/// No queue of the store has this name: theirs have numbers. A receive of it does nothing but move the store's moment on.
-const NO_QUEUE: &str = "none.fifo";
+/// What came of trying to start an operation.
+pub(super) enum StartOutcome {
+    /// Its answer is due.
+    Open(Entry),
+    /// Another operation, whose answer is still due, decides what is to be answered.
+    WaitsForAnswer(Arc<Queue>, Operation),
+    /// Several answers are due.
+    Begun,
+}
+
+impl StartOutcome {
+    /// It is answered without the program.
+    pub(super) fn ready(answer: Answer) -> StartOutcome {
+        StartOutcome::Open(Entry::Ready(Some(answer)))
+    }
+}
+
+/// An operation that waits until there is a free client.
+pub(super) struct Pending {
+    pub(super) queue: Option<Arc<Queue>>,
+    /// None where only the answers to earlier operations are waited for.
+    pub(super) operation: Option<Operation>,
+    /// If it is for a client, it isn't started behind this moment.
+    pub(super) until: Option<Moment>,
+    pub(super) sender: Option<AnswerSender>,
+}
 
 impl Task {
     /// Starts the operations that wait, as long as there are free clients.
@@ -28,10 +52,10 @@ impl Task {
         while self.may_start() {
             let Some(Pending { queue, operation, until, mut sender }) = self.pending.pop_front() else { break };
             let is_for_client = operation.as_ref().is_some_and(Operation::is_for_client);
-            let is_late = is_for_client && until.is_some_and(|until| until < self.clock.now());
-            // What the tables show may be old where the chain has another head by now, which then answers nothing of this.
+            let is_late = is_for_client && until.is_some_and(|until| until < self.shared.clock.now());
+            // Where the tables are old by now, nothing is answered of this.
             let may_be_of_tables = operation.as_ref().map_or(true, Operation::may_be_of_tables);
-            let is_of_tables = self.chain.is_some() && may_be_of_tables && !is_late;
+            let is_of_tables = self.backend.may_be_superseded() && may_be_of_tables && !is_late;
             let started = match (queue, operation) {
                 _ if is_late => StartOutcome::ready(Err(too_late())),
                 (Some(queue), Some(Operation::Ask(ask))) => self.start_ask(queue, ask)?,
@@ -48,19 +72,22 @@ impl Task {
                 (Some(_), Some(Operation::Hold | Operation::HoldForMove | Operation::Release)) => {
                     StartOutcome::ready(Ok(Outcome::Done))
                 }
-                (_, Some(Operation::Moment)) => StartOutcome::Open(self.moment()),
+                (_, Some(Operation::Moment)) => {
+                    let moment = self.next_moment();
+                    StartOutcome::Open(self.given(moment))
+                }
                 _ => StartOutcome::Open(Entry::Ready(None)),
             };
             match started {
                 StartOutcome::Open(entry @ Entry::Ready(_)) if is_of_tables => {
                     // All that is started here came before this one request.
                     if !std::mem::replace(&mut has_asked, true) {
-                        let entry = self.moment();
-                        self.open.push_back(Open { entry, sender: None });
+                        let moment = self.next_moment();
+                        self.open_entry(moment);
                     }
-                    self.open.push_back(Open { entry, sender });
+                    self.exchange.open.push_back(Open { entry, sender });
                 }
-                StartOutcome::Open(entry) => self.open.push_back(Open { entry, sender }),
+                StartOutcome::Open(entry) => self.exchange.open.push_back(Open { entry, sender }),
                 StartOutcome::Begun => {}
                 StartOutcome::WaitsForAnswer(queue, operation) => {
                     let (queue, operation) = (Some(queue), Some(operation));
@@ -73,14 +100,13 @@ impl Task {
     }
 
     fn may_start(&self) -> bool {
-        let has_to_wait =
-            self.waits_for_answer || self.moving.is_some() || self.is_stopped() || self.has_most_moments();
-        !has_to_wait && self.clients.has(false) && self.out.bytes.len() < PIECE
+        let has_to_wait = self.waits_for_answer || self.moving.is_some() || self.backend.is_stopped();
+        !has_to_wait && self.clients.has(false) && self.exchange.out.bytes.len() < PIECE_BYTES
     }
 
     fn start_ask(&mut self, queue: Arc<Queue>, ask: Ask) -> Result<StartOutcome, Ended> {
         let ready = |answer| Ok(StartOutcome::ready(answer));
-        let moment = self.clock.now();
+        let moment = self.shared.clock.now();
         let (store, removed, is_rescoped) = {
             let state = queue.state();
             let is_rescoped = state.has_ids_of_other_scope(moment);
@@ -122,31 +148,37 @@ impl Task {
         }
         let ask = stamped(ask, &queue, moment);
         let written = ask.written(store);
-        if !self.takes_names(&ask) {
-            self.counters.count_lack_of_room();
+        if !self.takes_gone(&ask, moment) {
+            self.shared.counters.count_lack_of_room();
             return ready(Err(SqsError::OverLimit("There is no room for the names of more queues.".into())));
         }
         if !self.has_space(&ask, written.len() as u64, moment) {
-            self.counters.count_lack_of_room();
+            self.shared.counters.count_lack_of_room();
             return ready(Err(refusal_for_room(true)));
         }
-        let weight = match self.admission.admit(&ask, moment) {
+        let weight = match self.shared.admission.admit(&ask, moment) {
             Ok(weight) => weight,
             Err(error) => return ready(Err(error)),
         };
         self.ask_admitted(queue, ask, written, moment, weight)
     }
 
-    /// Whether names of queues that are gone leave room for this one, if this makes a queue of a name that the store hasn't had.
-    fn takes_names(&self, ask: &Ask) -> bool {
-        let (names, place) = (self.queues.names(), self.shard.place());
-        match ask {
-            Ask::Create { store, .. } if adds(ask) && names.is_new(place, *store) => {
-                self.space.takes_names(STORED_NAME_BYTES * names.gone(place))
-                    && self.admission.memory.takes_names(GONE_NAME_BYTES * names.all_gone())
-            }
-            _ => true,
+    /// Whether what is kept of queues that are gone leaves room for this one, if this makes a queue: their removals, for a minute, and
+    /// their names, if it has a name that the store hasn't had.
+    fn takes_gone(&self, ask: &Ask, now: Moment) -> bool {
+        let (names, place) = (self.shared.queues.names(), self.shard.place());
+        let Ask::Create { store, .. } = ask else { return true };
+        if !adds(ask) {
+            return true;
         }
+        let (space, memory) = (&self.space, &self.shared.admission.memory);
+        let removals = self.shared.queues.count_removals(now);
+        if !space.takes_gone(STORED_REMOVAL_BYTES * removals) || !memory.takes_gone(REMOVAL_BYTES * removals) {
+            return false;
+        }
+        let (gone, all_gone) = (names.gone(place), names.all_gone());
+        !names.is_new(place, *store)
+            || space.takes_gone(STORED_NAME_BYTES * gone) && memory.takes_gone(GONE_NAME_BYTES * all_gone)
     }
 
     /// Whether the program's file has space for so many bytes more that stay, if this adds them.
@@ -154,7 +186,8 @@ impl Task {
         if !adds(ask) {
             return true;
         }
-        let (queues, shard, admission, open) = (&self.queues, self.shard, &self.admission, &self.open);
+        let (queues, shard, admission, open) =
+            (&self.shared.queues, self.shard, &self.shared.admission, &self.exchange.open);
         self.space.take(bytes, || {
             // Ids that count no more are in the count until then.
             admission.look_at_ages(now);
@@ -162,6 +195,7 @@ impl Task {
         })
     }
 
+    /// Asks what was admitted with this weight, if a client is free for it.
     fn ask_admitted(
         &mut self,
         queue: Arc<Queue>,
@@ -170,68 +204,38 @@ impl Task {
         moment: Moment,
         weight: u64,
     ) -> Result<StartOutcome, Ended> {
-        match self.ask_free_client(queue, ask, written, moment, weight)? {
-            started @ StartOutcome::Open(Entry::Ask(_)) => Ok(started),
-            other => {
-                self.admission.answered(weight);
-                Ok(other)
-            }
-        }
-    }
-
-    fn ask_free_client(
-        &mut self,
-        queue: Arc<Queue>,
-        ask: Ask,
-        written: Vec<u8>,
-        moment: Moment,
-        weight: u64,
-    ) -> Result<StartOutcome, Ended> {
         let Some(client) = self.clients.take(ask.reads_parts()) else {
+            self.shared.admission.answered(weight);
             return Ok(StartOutcome::WaitsForAnswer(queue, ask.into()));
         };
-        let number = self.next_number();
-        if let Some(id) = ask.attempt().filter(|_| self.keeps_books()) {
+        let number = self.backend.next_number();
+        // Where nothing is kept, no other gateway goes on with it.
+        if let Some(id) = ask.attempt().filter(|_| self.backend.is_kept()) {
             let request = AttemptRequest { mark: queue.mark.0, id: id.clone(), moment, client, number };
             if !self.say_ahead(&queue, book::Entry::Asked(request), moment)? {
                 self.clients.give_back(client);
+                self.shared.admission.answered(weight);
                 return Ok(StartOutcome::WaitsForAnswer(queue, ask.into()));
             }
         }
         self.open_visibility_changes += usize::from(matches!(ask, Ask::ChangeVisibility { .. }));
-        let asked = OpenAsk {
-            queue,
-            ask: ask.without_text(),
-            written,
-            moment,
-            client,
-            number,
-            weight,
-            ends: 0,
-            is_done: false,
-            original: None,
-        };
-        self.write(&asked);
-        Ok(StartOutcome::Open(Entry::Ask(Box::new(asked))))
+        let ask = ask.without_text();
+        let asked =
+            OpenAsk { queue, ask, written, moment, client, number, weight, ends: 0, is_done: false, original: None };
+        Ok(StartOutcome::Open(self.given(Entry::Ask(Box::new(asked)))))
     }
 
     /// Has the book say something ahead of what is asked next, where there is a book. False if no client is free for that.
     fn say_ahead(&mut self, queue: &Arc<Queue>, entry: book::Entry, moment: Moment) -> Result<bool, Ended> {
-        let Some(book) = self.queues.books().current(self.shard.place()) else { return Ok(true) };
+        let Some(book) = self.shared.queues.books().current(self.shard.place()) else { return Ok(true) };
         let Some(client) = self.clients.take(false) else { return Ok(false) };
         let ask = Ask::Say { book, text: entry.text()?, entry: Arc::new(entry) };
         let written = ask.written(StoreName::of_book(book));
-        let (queue, number) = (queue.clone(), self.next_number());
+        let (queue, number) = (queue.clone(), self.backend.next_number());
         let asked =
             OpenAsk { queue, ask, written, moment, client, number, weight: 0, ends: 0, is_done: false, original: None };
-        self.write(&asked);
-        self.open.push_back(Open { entry: Entry::Ask(Box::new(asked)), sender: None });
+        self.open_entry(Entry::Ask(Box::new(asked)));
         Ok(true)
-    }
-
-    /// Whether another gateway goes on with what the program keeps, once this one has ended.
-    fn keeps_books(&self) -> bool {
-        self.chain.is_some() || self.file.is_some()
     }
 
     /// Whether the same call sends its message with a delay and without, and one of both isn't answered yet. Takes time in
@@ -239,92 +243,65 @@ impl Task {
     fn is_repeated_beside(&self, ask: &Ask, queue: &Queue) -> bool {
         let Ask::Send { dedup, cause: Cause::Client, .. } = ask else { return false };
         let Some(other) = queue.delays().or_else(|| queue.main()) else { return false };
-        let is_same = |open: &Open| match &open.entry {
-            Entry::Ask(asked) => match &asked.ask {
-                Ask::Send { dedup: first, .. } => asked.queue.mark == other.mark && first == dedup,
-                _ => false,
-            },
+        let is_same = |asked: &OpenAsk| match &asked.ask {
+            Ask::Send { dedup: first, .. } => asked.queue.mark == other.mark && first == dedup,
             _ => false,
         };
-        dedup.call_key().is_some() && self.open.iter().any(is_same)
+        dedup.call_key().is_some() && self.is_asked(is_same)
     }
 
     /// Whether a send to this queue with this id isn't answered yet. Takes time in proportion to the open requests.
     fn is_being_sent(&self, queue: &Queue, id: &DedupId) -> bool {
-        self.open.iter().any(|open| match &open.entry {
-            Entry::Ask(asked) => match &asked.ask {
-                Ask::Send { dedup, .. } => asked.queue.mark == queue.mark && dedup == id,
-                _ => false,
-            },
+        self.is_asked(|asked| match &asked.ask {
+            Ask::Send { dedup, .. } => asked.queue.mark == queue.mark && dedup == id,
             _ => false,
         })
     }
 
-    pub(super) fn write(&mut self, asked: &OpenAsk) {
-        let OpenAsk { moment, client, number, written, .. } = asked;
-        self.write_request(*moment, *client, *number, written);
+    /// Whether such an ask isn't answered yet.
+    fn is_asked(&self, is_such: impl Fn(&OpenAsk) -> bool) -> bool {
+        self.exchange.open.iter().any(|open| matches!(&open.entry, Entry::Ask(asked) if is_such(asked)))
     }
 
-    fn write_request(&mut self, moment: Moment, client: u32, number: u64, ask: &[u8]) {
-        let (out, write) = (&mut self.out.bytes, |out: &mut Vec<u8>| append_request(out, client, number, ask));
-        match &self.chain {
-            Some(chain) => chain.request(out, moment, write),
-            None => self.server.request(out, moment, number, write),
-        }
+    /// Gives what an entry asks to what keeps the store.
+    fn give(&mut self, entry: &Entry) {
+        self.backend.give(entry, &mut self.exchange.out.bytes);
     }
 
-    pub(super) fn moment(&mut self) -> Entry {
-        self.count_moment();
-        let number = self.next_number();
-        self.moment_at(self.clock.now(), number)
+    /// The same, and gives the entry back.
+    pub(super) fn given(&mut self, entry: Entry) -> Entry {
+        self.give(&entry);
+        entry
     }
 
-    pub(super) fn moment_at(&mut self, moment: Moment, number: u64) -> Entry {
-        let ask = StoreAsk::<&str>::Receive { size: 1, timeout: None }.written(NO_QUEUE);
-        self.write_request(moment, COUNTER, number, &ask);
-        Entry::Moment { moment, number }
+    /// Gives what an entry asks that is the last one of no job. It is open from now on.
+    pub(super) fn open_entry(&mut self, entry: Entry) {
+        self.give(&entry);
+        self.exchange.open.push_back(Open { entry, sender: None });
+    }
+
+    /// An entry that moves the store's moment on, and is still to be given.
+    fn next_moment(&mut self) -> Entry {
+        Entry::Moment { number: self.backend.next_number(), moment: self.shared.clock.now() }
     }
 
     fn count(&mut self, queue: Arc<Queue>) -> Entry {
-        let entry = self.moment();
-        self.open.push_back(Open { entry, sender: None });
-        let tag = self.next_number();
-        // A server that acts is asked by another way than requests are: only behind the moment's answer.
-        if self.chain.is_none() {
-            self.write_count(tag, &queue);
-        }
-        Entry::Count { tag, queue, least: None }
-    }
-
-    /// Asks for something that changes nothing, to see whether the program answers it.
-    pub(super) fn probe(&mut self, queue: Arc<Queue>) -> Entry {
-        let tag = self.next_number();
-        self.write_count(tag, &queue);
-        Entry::Probe { tag, queue }
-    }
-
-    pub(super) fn write_count(&mut self, tag: u64, queue: &Queue) {
-        let store = queue.state().entry.store;
-        let (out, write) = (&mut self.out.bytes, |out: &mut Vec<u8>| append_query(out, COUNTER, tag, store));
-        match &self.chain {
-            Some(_) => chain::query(out, write),
-            None => self.server.query(out, tag, write),
-        }
+        let moment = self.next_moment();
+        self.open_entry(moment);
+        let tag = self.backend.next_number();
+        self.given(Entry::Count { tag, queue, least: None })
     }
 
     /// Whether a change or a delete of this message isn't answered yet. Takes time in proportion to the open requests,
     /// where the message has expired or changes are open.
     fn is_decided_by_others(&self, queue: &Queue, receipt: Receipt, has_expired: bool) -> bool {
-        let is_of_message = |open: &Open| match &open.entry {
-            Entry::Ask(asked) => match asked.ask {
-                Ask::ChangeVisibility { receipt: other, .. } | Ask::Delete { receipt: other, .. } => {
-                    asked.queue.mark == queue.mark && other.sequence == receipt.sequence
-                }
-                _ => false,
-            },
+        let is_of_message = |asked: &OpenAsk| match asked.ask {
+            Ask::ChangeVisibility { receipt: other, .. } | Ask::Delete { receipt: other, .. } => {
+                asked.queue.mark == queue.mark && other.sequence == receipt.sequence
+            }
             _ => false,
         };
-        (has_expired || self.open_visibility_changes > 0) && self.open.iter().any(is_of_message)
+        (has_expired || self.open_visibility_changes > 0) && self.is_asked(is_of_message)
     }
 
     /// Has the book say what changes, when it has said all that was to be said of the queue before.
@@ -335,15 +312,15 @@ impl Task {
         if self.is_being_said(&queue) {
             return Ok(StartOutcome::WaitsForAnswer(queue, change.into()));
         }
-        if change == TableChange::Created && self.queues.find(&queue.name).is_some() {
+        if change == TableChange::Created && self.shared.queues.find(&queue.name).is_some() {
             let message = "The queue was created by another request meanwhile.";
             return Ok(StartOutcome::ready(Err(SqsError::ServiceUnavailable(message.into()))));
         }
-        let moment = self.clock.now();
+        let moment = self.shared.clock.now();
         let Some(entry) = queue.entry_after(&change, moment) else {
             return Ok(StartOutcome::ready(Ok(Outcome::Done)));
         };
-        let weight = match self.admission.admit_entry(&queue, &entry, moment) {
+        let weight = match self.shared.admission.admit_entry(&queue, &entry, moment) {
             Ok(weight) => weight,
             Err(error) => return Ok(StartOutcome::ready(Err(error))),
         };
@@ -355,21 +332,18 @@ impl Task {
 
     /// Whether an entry about a queue of this name isn't answered yet. Takes time in proportion to the open requests.
     fn is_being_said(&self, queue: &Queue) -> bool {
-        self.open.iter().any(|open| match &open.entry {
-            Entry::Ask(asked) => matches!(asked.ask, Ask::Say { .. }) && asked.queue.name == queue.name,
-            _ => false,
-        })
+        self.is_asked(|asked| matches!(asked.ask, Ask::Say { .. }) && asked.queue.name == queue.name)
     }
 
     fn start_saying(&mut self, queue: Arc<Queue>, entry: book::Entry, weight: u64) -> Result<StartOutcome, Ended> {
-        let Some(book) = self.queues.books().current(self.shard.place()) else {
-            self.admission.answered(weight);
+        let Some(book) = self.shared.queues.books().current(self.shard.place()) else {
+            self.shared.admission.answered(weight);
             return Ok(StartOutcome::ready(Err(without_book())));
         };
         let text = entry.text()?;
         let ask = Ask::Say { book, entry: Arc::new(entry), text };
         let written = ask.written(StoreName::of_book(book));
-        self.ask_admitted(queue, ask, written, self.clock.now(), weight)
+        self.ask_admitted(queue, ask, written, self.shared.clock.now(), weight)
     }
 }
 

@@ -6,7 +6,7 @@ use std::collections::{BinaryHeap, HashMap};
 use hobbychair_bytes::moment::Moment;
 use hobbychair_sqs::texts::AttemptId;
 
-use super::WINDOW;
+use super::WINDOW_MILLISECONDS;
 use crate::ask::Handed;
 use crate::book::AttemptRequest;
 
@@ -24,7 +24,7 @@ pub(super) struct Attempt {
 impl Attempt {
     /// From then on it is worth nothing.
     fn end(&self) -> Moment {
-        self.until.min(self.moment + WINDOW)
+        self.until.min(self.moment + WINDOW_MILLISECONDS)
     }
 }
 
@@ -58,7 +58,7 @@ impl Attempts {
 
     /// An attempt is about to ask by a request.
     pub(super) fn ask(&mut self, request: &AttemptRequest) {
-        self.asked.retain(|_, earlier| request.moment < earlier.moment + WINDOW);
+        self.asked.retain(|_, earlier| request.moment < earlier.moment + WINDOW_MILLISECONDS);
         self.asked.insert(request.id.clone(), request.clone());
     }
 
@@ -179,9 +179,12 @@ mod tests {
     fn an_attempt_ends_with_its_timeouts_or_after_five_minutes() {
         let mut attempts = Attempts::default();
         attempts.insert(&id("a"), attempt(0, 30_000, &[1]));
-        attempts.put_off(1, 2 * WINDOW);
-        attempts.forget_old(WINDOW - 1);
-        assert!(attempts.find(&id("a"), WINDOW - 1).is_some() && attempts.find(&id("a"), WINDOW).is_none());
+        attempts.put_off(1, 2 * WINDOW_MILLISECONDS);
+        attempts.forget_old(WINDOW_MILLISECONDS - 1);
+        assert!(
+            attempts.find(&id("a"), WINDOW_MILLISECONDS - 1).is_some()
+                && attempts.find(&id("a"), WINDOW_MILLISECONDS).is_none()
+        );
         attempts.put_off(1, 50_000);
         attempts.forget_old(50_000);
         assert_eq!((attempts.bytes(), attempts.by_id.len(), attempts.by_message.len()), (0, 0, 0));

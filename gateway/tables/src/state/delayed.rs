@@ -8,7 +8,7 @@ use hobbychair_bytes::moment::Moment;
 use hobbychair_sqs::texts::{CallKey, DedupId};
 use uuid::Uuid;
 
-use super::WINDOW;
+use super::WINDOW_MILLISECONDS;
 use crate::limits::CALL_BYTES;
 
 /// When a message is due, and its sequence number.
@@ -170,11 +170,11 @@ impl Calls {
     /// What a call sent. Nothing is forgotten here, since nobody counts it here.
     pub(super) fn find(&self, call: &DedupId, now: Moment) -> Option<First> {
         let (moment, first) = self.firsts.get(&call.call_key()?)?;
-        (now < moment + WINDOW).then_some(*first)
+        (now < moment + WINDOW_MILLISECONDS).then_some(*first)
     }
 
     pub(super) fn forget_old(&mut self, now: Moment) {
-        while let Some((_, call)) = self.by_age.front().filter(|(moment, _)| moment + WINDOW <= now) {
+        while let Some((_, call)) = self.by_age.front().filter(|(moment, _)| moment + WINDOW_MILLISECONDS <= now) {
             self.firsts.remove(call);
             self.by_age.pop_front();
         }
@@ -259,10 +259,10 @@ mod tests {
         calls.remember(&call("a"), First::Stored(4), 30);
         calls.remember(&DedupId::parse("other").unwrap(), First::Stored(5), 30);
         assert_eq!(calls.bytes(), 2 * CALL_BYTES);
-        let firsts = ["a", "b", "c"].map(|name| calls.find(&call(name), 9 + WINDOW));
+        let firsts = ["a", "b", "c"].map(|name| calls.find(&call(name), 9 + WINDOW_MILLISECONDS));
         assert_eq!(firsts, [Some(First::Delayed(id)), Some(First::Stored(3)), None]);
-        assert_eq!(calls.find(&call("a"), 10 + WINDOW), None);
-        calls.forget_old(20 + WINDOW);
+        assert_eq!(calls.find(&call("a"), 10 + WINDOW_MILLISECONDS), None);
+        calls.forget_old(20 + WINDOW_MILLISECONDS);
         assert_eq!(calls.bytes(), 0);
     }
 }

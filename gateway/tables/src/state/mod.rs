@@ -43,13 +43,13 @@ use said::bytes_of_queue;
 use sizes::Sizes;
 
 /// So long a deduplication id counts, in milliseconds. A repeated attempt id is given the same messages as long.
-pub const WINDOW: u64 = 300_000;
+pub const WINDOW_MILLISECONDS: u64 = 300_000;
 
 /// The most messages of a standard queue that are in flight at once.
 const MOST_IN_FLIGHT: usize = 120_000;
 
 /// What an answer shows of a message beside its envelope has fewer bytes.
-const SHOWN: usize = 1_280;
+const SHOWN_BYTES: usize = 1_280;
 
 /// What a queue takes in the bytes of a store.
 #[derive(Clone, Copy, Debug, Default, PartialEq, Eq)]
@@ -272,7 +272,7 @@ impl State {
 
     /// Forgets the sends that are too old at this moment.
     fn forget_old_sends(&mut self, now: Moment) {
-        while self.recent.front().is_some_and(|sent| sent.moment + WINDOW <= now) {
+        while self.recent.front().is_some_and(|sent| sent.moment + WINDOW_MILLISECONDS <= now) {
             if !self.messages.has(self.first_recent()) {
                 self.left_ids = self.left_ids.saturating_sub(1);
             }
@@ -472,7 +472,9 @@ impl State {
     /// How many bytes the answer to a receive of `size` messages has at most, but for characters of bodies that have to be
     /// escaped in more than one of two.
     pub fn most_answered(&self, size: u8) -> usize {
-        usize::try_from(2 * self.most_envelopes(size)).unwrap_or(usize::MAX).saturating_add(SHOWN * usize::from(size))
+        usize::try_from(2 * self.most_envelopes(size))
+            .unwrap_or(usize::MAX)
+            .saturating_add(SHOWN_BYTES * usize::from(size))
     }
 
     /// How many bytes the envelopes of `size` messages have at most.

@@ -11,7 +11,7 @@ use crate::groups::Groups;
 use crate::jumps::Jumps;
 
 /// So long groups are kept that nobody needs, in milliseconds.
-const KEPT: u64 = 60_000;
+const KEPT_MILLISECONDS: u64 = 60_000;
 
 impl State {
     /// The messages that the store would hand out next at `now`, in its order, up to the first one that isn't wanted, and
@@ -58,7 +58,7 @@ impl State {
 
     /// Forgets the groups, if nobody needed them for a while.
     pub fn forget_groups(&mut self, now: Moment) {
-        if self.delay == 0 && self.groups_needed + KEPT <= now {
+        if self.delay == 0 && self.groups_needed + KEPT_MILLISECONDS <= now {
             self.groups = None;
         }
     }

@@ -8,7 +8,7 @@ use std::collections::HashMap;
 use hobbychair_bytes::moment::Moment;
 use hobbychair_sqs::texts::{DedupId, QueueKind};
 
-use super::{State, WINDOW};
+use super::{State, WINDOW_MILLISECONDS};
 use crate::ask::Outcome;
 
 /// A send whose deduplication id counts.
@@ -33,7 +33,7 @@ impl State {
 
     /// Whether ids of another scope than the queue's may count at this moment.
     pub fn has_ids_of_other_scope(&self, now: Moment) -> bool {
-        self.entry.rescoped.is_some_and(|changed| now < changed + WINDOW)
+        self.entry.rescoped.is_some_and(|changed| now < changed + WINDOW_MILLISECONDS)
     }
 
     /// What was sent with this id, as the store has it, if that counts at this moment. The first one who asks behind a change takes

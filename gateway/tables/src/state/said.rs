@@ -13,7 +13,7 @@ use crate::tasks::{self, MoveTask};
 
 /// What an entry changed.
 #[derive(Clone, Copy, Debug, Default, PartialEq, Eq)]
-pub struct Said {
+pub struct EntryEffect {
     /// Something that can open a group.
     pub has_opened: bool,
     /// Which messages are being deleted.
@@ -64,10 +64,10 @@ impl State {
     }
 
     /// The book of this number says how the queue stands, by an entry of this size.
-    pub fn said(&mut self, entry: &QueueEntry, book: u64, size: u64) -> Said {
+    pub fn said(&mut self, entry: &QueueEntry, book: u64, size: u64) -> EntryEffect {
         let before = std::mem::replace(&mut self.entry, entry.clone());
         (self.said_in, self.entry_size) = (book, size);
-        let said = Said {
+        let said = EntryEffect {
             has_opened: before.attributes != entry.attributes,
             purging: (before.purging != entry.purging).then_some(entry.purging),
         };

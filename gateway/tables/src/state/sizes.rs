@@ -3,7 +3,7 @@
 use std::collections::BTreeMap;
 
 /// Lengths are rounded up to steps of a sixteenth of the next power of two, and of so many bytes at least.
-const LEAST_STEP: u64 = 64;
+const LEAST_STEP_BYTES: u64 = 64;
 
 /// How many messages there are of each length, as it is rounded up.
 #[derive(Debug, Default)]
@@ -32,7 +32,7 @@ impl Sizes {
 }
 
 fn rounded(bytes: u64) -> u64 {
-    let step = (bytes.next_power_of_two() / 16).max(LEAST_STEP);
+    let step = (bytes.next_power_of_two() / 16).max(LEAST_STEP_BYTES);
     bytes.div_ceil(step) * step
 }
 
@@ -46,13 +46,13 @@ mod tests {
         assert_eq!(sizes.longest(), 0);
         for bytes in [0, 1, 64, 65, 700, 5_000, 1 << 20, (1 << 20) + 1, 3 << 20] {
             sizes.add(bytes);
-            assert!((bytes..=(bytes + bytes / 8).max(bytes + LEAST_STEP)).contains(&sizes.longest()), "{bytes}");
+            assert!((bytes..=(bytes + bytes / 8).max(bytes + LEAST_STEP_BYTES)).contains(&sizes.longest()), "{bytes}");
         }
         for (gone, left) in
             [(3 << 20, (1 << 20) + 1), ((1 << 20) + 1, 1 << 20), (1 << 20, 5_000), (700, 5_000), (5_000, 65)]
         {
             sizes.remove(gone);
-            assert!((left..=left + left / 8 + LEAST_STEP).contains(&sizes.longest()), "{gone}");
+            assert!((left..=left + left / 8 + LEAST_STEP_BYTES).contains(&sizes.longest()), "{gone}");
         }
         [0, 1, 64, 65].into_iter().for_each(|bytes| sizes.remove(bytes));
         assert_eq!(sizes.longest(), 0);

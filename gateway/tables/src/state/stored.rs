@@ -14,7 +14,7 @@ use super::attempts::Attempt;
 use super::delayed::First;
 use super::message::{Handing, Message};
 use super::recent::RecentSend;
-use super::{State, WINDOW};
+use super::{State, WINDOW_MILLISECONDS};
 use crate::ask::Handed;
 use crate::book::AttemptEntry;
 use crate::stored::{AcceptedSend, Named, StoredMessage, StoredQueue};
@@ -193,7 +193,7 @@ fn calls_of(
     last: Moment,
     first: impl Fn(u64) -> First,
 ) -> impl Iterator<Item = (Moment, CallKey, First)> + '_ {
-    let counting = sends.iter().filter(move |send| send.moment + WINDOW > last);
+    let counting = sends.iter().filter(move |send| send.moment + WINDOW_MILLISECONDS > last);
     let calls: Vec<_> = counting.filter_map(|send| Some((send.moment, send.call?, first(send.sequence)))).collect();
     calls.into_iter()
 }

@@ -70,18 +70,18 @@ fn what_is_deleted_counts_by_its_id_until_that_is_too_old() {
     delete(&mut state, 2, 2000);
     assert_eq!(state.bytes_in_use(), 2 * one + ID_BYTES);
     // The first one's id grows old before it is deleted: nothing is left of it.
-    state.look_at_ages(WINDOW);
-    delete(&mut state, 1, WINDOW);
+    state.look_at_ages(WINDOW_MILLISECONDS);
+    delete(&mut state, 1, WINDOW_MILLISECONDS);
     assert_eq!(state.bytes_in_use(), one + ID_BYTES);
-    state.look_at_ages(WINDOW + 999);
+    state.look_at_ages(WINDOW_MILLISECONDS + 999);
     assert_eq!(state.bytes_in_use(), one + ID_BYTES);
     // A send forgets what is old, also without a look.
-    send(&mut state, 4, WINDOW + 1000);
+    send(&mut state, 4, WINDOW_MILLISECONDS + 1000);
     assert_eq!(state.bytes_in_use(), 2 * one);
-    delete(&mut state, 3, WINDOW + 1000);
-    delete(&mut state, 4, WINDOW + 1000);
+    delete(&mut state, 3, WINDOW_MILLISECONDS + 1000);
+    delete(&mut state, 4, WINDOW_MILLISECONDS + 1000);
     assert_eq!(state.bytes_in_use(), 2 * ID_BYTES);
-    state.look_at_ages(3 * WINDOW);
+    state.look_at_ages(3 * WINDOW_MILLISECONDS);
     assert_eq!(state.bytes_in_use(), 0);
     state.removed = true;
     assert_eq!(state.bytes_in_use(), 0);
@@ -397,7 +397,15 @@ fn send_with(state: &mut State, place: u64, dedup: &DedupId, moment: Moment) {
 #[test]
 fn a_repeat_is_told_the_first_ones_place_and_adds_nothing() {
     let (mut state, dedup) = (state(), DedupId::parse("d").unwrap());
-    let sends = [(1, 0), (2, 10), (1, 20), (3, WINDOW + 10), (1, WINDOW + 20), (2, 2 * WINDOW), (3, 2 * WINDOW)];
+    let sends = [
+        (1, 0),
+        (2, 10),
+        (1, 20),
+        (3, WINDOW_MILLISECONDS + 10),
+        (1, WINDOW_MILLISECONDS + 20),
+        (2, 2 * WINDOW_MILLISECONDS),
+        (3, 2 * WINDOW_MILLISECONDS),
+    ];
     sends.into_iter().for_each(|(place, moment)| send_with(&mut state, place, &dedup, moment));
     assert_eq!((state.last_sequence, state.count()), (3, 3));
 }
@@ -410,9 +418,9 @@ fn a_call_is_known_whether_it_sent_its_message_with_a_delay_or_without() {
     state.remember_delayed(&call, Uuid::from_u128(9), 20);
     let first = state.sent_by(&call, 30);
     assert!(matches!(first, Some(Outcome::Sent { sequence: 1, id: None })), "{first:?}");
-    assert!(state.sent_by(&call, 10 + WINDOW).is_none());
-    state.remember_delayed(&call, Uuid::from_u128(9), 20 + WINDOW);
-    let first = state.sent_by(&call, 20 + WINDOW);
+    assert!(state.sent_by(&call, 10 + WINDOW_MILLISECONDS).is_none());
+    state.remember_delayed(&call, Uuid::from_u128(9), 20 + WINDOW_MILLISECONDS);
+    let first = state.sent_by(&call, 20 + WINDOW_MILLISECONDS);
     assert!(matches!(first, Some(Outcome::Sent { id, .. }) if id == Some(Uuid::from_u128(9))), "{first:?}");
 }
 
@@ -426,8 +434,9 @@ fn a_call_that_is_looked_up_when_it_is_old_counts_until_it_is_forgotten() {
     let envelope = Envelope::from("{\"sent\":0}\nbody".to_string());
     let ask = Ask::Send { group, dedup: call.clone(), envelope, cause: Cause::Client };
     queues.apply_reply(0, &queue, &ask, StoreReply::Sent(1), 0).unwrap();
-    let looked_up = [WINDOW - 1, WINDOW].map(|now| queue.state().sent_by(&call, now).is_some());
-    queues.look_at_ages(WINDOW);
+    let looked_up =
+        [WINDOW_MILLISECONDS - 1, WINDOW_MILLISECONDS].map(|now| queue.state().sent_by(&call, now).is_some());
+    queues.look_at_ages(WINDOW_MILLISECONDS);
     let in_use = queue.state().bytes_of_all();
     assert_eq!((looked_up, queues.bytes_in_use()), ([true, false], in_use));
 }

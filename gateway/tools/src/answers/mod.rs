@@ -20,11 +20,11 @@ use tokio::sync::mpsc;
 use crate::inspect::{files_there, open_journal_file};
 
 /// So many lines of a file may wait for earlier ones of others.
-const AHEAD: usize = 16;
+const AHEAD_LINES: usize = 16;
 
 /// A line of a history, and its moment.
 #[derive(Debug)]
-struct Told {
+struct TimedLine {
     at: Moment,
     line: String,
 }
@@ -37,7 +37,7 @@ struct Source {
     journal: JournalFile,
 }
 
-type Lines = mpsc::Receiver<Result<Told>>;
+type Lines = mpsc::Receiver<Result<TimedLine>>;
 
 /// Writes a line for each request that the files of a journal have, in the order of their moments, and those of one moment file by
 /// file. Where a store has the place of a file's first requests, that is said, and its lines begin with that store. Behind an error
@@ -63,7 +63,7 @@ fn open(path: &Path) -> Result<Vec<Source>> {
 
 /// Has a program answer the entries of a file. An error is the last that comes of it.
 fn begin(program: &str, source: Source) -> Lines {
-    let (sender, lines) = mpsc::channel(AHEAD);
+    let (sender, lines) = mpsc::channel(AHEAD_LINES);
     let program = program.to_string();
     tokio::spawn(async move {
         let path = source.path.clone();
@@ -82,7 +82,7 @@ async fn merge(mut lines: Vec<Lines>, out: &mut impl Write) -> Result<()> {
     for lines in &mut lines {
         next.push(lines.recv().await.transpose()?);
     }
-    let first = |next: &[Option<Told>]| {
+    let first = |next: &[Option<TimedLine>]| {
         let moments = next.iter().enumerate().filter_map(|(place, told)| Some((told.as_ref()?.at, place)));
         moments.min().map(|(_, place)| place)
     };
@@ -103,7 +103,7 @@ mod tests {
     fn lines(told: &[(Moment, &str)]) -> Lines {
         let (sender, lines) = mpsc::channel(told.len().max(1));
         for (at, line) in told {
-            sender.try_send(Ok(Told { at: *at, line: line.to_string() })).unwrap();
+            sender.try_send(Ok(TimedLine { at: *at, line: line.to_string() })).unwrap();
         }
         lines
     }
@@ -120,7 +120,7 @@ mod tests {
     #[tokio::test]
     async fn behind_an_error_nothing_is_written() {
         let (sender, failing) = mpsc::channel(2);
-        sender.try_send(Ok(Told { at: 3, line: "c".into() })).unwrap();
+        sender.try_send(Ok(TimedLine { at: 3, line: "c".into() })).unwrap();
         sender.try_send(Err(anyhow::anyhow!("damaged"))).unwrap();
         drop(sender);
         let mut out = Vec::new();

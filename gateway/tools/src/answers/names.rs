@@ -8,11 +8,11 @@ use hobbychair_bytes::values::{Part, StoreReply, StoreRequest};
 #[derive(Default)]
 pub struct Names {
     incarnations: HashMap<String, u64>,
-    clients: HashMap<u32, Last>,
+    clients: HashMap<u32, LastRequest>,
 }
 
 /// The largest number of a client, and the incarnation to which it went.
-struct Last {
+struct LastRequest {
     number: u64,
     incarnation: u64,
 }
@@ -23,7 +23,7 @@ impl Names {
         match part {
             // Of which incarnation its message was isn't told there.
             Part::Client { client, number, .. } => {
-                self.clients.insert(*client, Last { number: *number, incarnation: 0 });
+                self.clients.insert(*client, LastRequest { number: *number, incarnation: 0 });
             }
             Part::Name { name, queue: Some(queue), .. } => {
                 self.incarnations.insert(name.to_string(), queue.incarnation);
@@ -44,7 +44,7 @@ impl Names {
             StoreReply::Removed => drop(self.incarnations.remove(&request.queue)),
             _ => {}
         }
-        self.clients.insert(request.client, Last { number: request.number, incarnation });
+        self.clients.insert(request.client, LastRequest { number: request.number, incarnation });
         incarnation
     }
 }

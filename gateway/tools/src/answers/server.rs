@@ -10,7 +10,7 @@ use bytes::Bytes;
 use hobbychair_bytes::commands::{append_arrival, Command, Party, Response, NO_MEMORY};
 use hobbychair_bytes::journal::{JournalFile, JournalFileError, Kept};
 use hobbychair_bytes::moment::Moment;
-use hobbychair_bytes::parts::{Cutter, FRAME_LIMIT};
+use hobbychair_bytes::parts::{Cutter, FRAME_LIMIT_BYTES};
 use hobbychair_bytes::values::{BadFrame, Part, StoreAnswer, StoreEntry, StoreReader, StoreReply, StoreRequest};
 use hobbychair_store::cq::{Cq, CqError};
 use hobbychair_store::pipes::{Input, Output};
@@ -18,18 +18,18 @@ use tokio::io::{AsyncReadExt, AsyncWriteExt};
 use tokio::sync::mpsc;
 
 use super::names::Names;
-use super::{Source, Told};
+use super::{Source, TimedLine};
 use crate::history::line::Line;
 use crate::history::stored::{line_of_chunk, line_of_request, told};
 
 /// So many bytes are written at once, or a little more.
-const BATCH: usize = 64 * 1024;
+const BATCH_BYTES: usize = 64 * 1024;
 
 /// So many batches are given ahead.
 const BATCHES: usize = 4;
 
 /// So many bytes of answers are read at once.
-const PIECE: usize = 256 * 1024;
+const PIECE_BYTES: usize = 256 * 1024;
 
 /// All arrivals are of this stream: none of them is refused.
 const STREAM: u64 = 1;
@@ -59,7 +59,7 @@ impl<E: Into<anyhow::Error>> From<E> for Halt {
 
 /// Sends a line for each entry of a file, with its answer. Before these come lines of the store with which the file begins, if it
 /// does so.
-pub async fn tell(program: &str, source: Source, lines: &mpsc::Sender<Result<Told>>) -> Result<()> {
+pub async fn tell(program: &str, source: Source, lines: &mpsc::Sender<Result<TimedLine>>) -> Result<()> {
     let Source { path, number, journal } = source;
     let mut cq = if journal.has_store() { Cq::start_loading(program)? } else { Cq::start_server(program, None)? };
     let (batches, given) = mpsc::channel(BATCHES);
@@ -88,7 +88,7 @@ impl Giving {
     async fn give(mut self, input: &mut Input, batches: mpsc::Sender<Vec<Given>>) -> Result<(), Halt> {
         loop {
             let (mut batch, mut bytes) = (Vec::new(), Vec::new());
-            while bytes.len() < BATCH {
+            while bytes.len() < BATCH_BYTES {
                 let Some(given) = self.next(&mut bytes)? else { break };
                 batch.push(given);
             }
@@ -139,7 +139,7 @@ struct Telling<'a> {
     /// The moment of the store with which the file begins.
     begin: Moment,
     names: Names,
-    lines: &'a mpsc::Sender<Result<Told>>,
+    lines: &'a mpsc::Sender<Result<TimedLine>>,
 }
 
 impl Telling<'_> {
@@ -156,7 +156,7 @@ impl Telling<'_> {
                     }
                     Given::Entry(moment, request) => self.entry(moment, &request).await?,
                 };
-                let told = Told { at: line.at, line: serde_json::to_string(&line)? };
+                let told = TimedLine { at: line.at, line: serde_json::to_string(&line)? };
                 self.lines.send(Ok(told)).await.map_err(|_| Halt::Unwanted)?;
             }
         }
@@ -238,10 +238,10 @@ impl Answers<'_> {
 
     async fn next(&mut self) -> Result<Response, Halt> {
         loop {
-            if let Some(frame) = self.cutter.next(FRAME_LIMIT).map_err(BadFrame)? {
+            if let Some(frame) = self.cutter.next(FRAME_LIMIT_BYTES).map_err(BadFrame)? {
                 return Ok(Response::read(frame).map_err(BadFrame)?);
             }
-            self.cutter.buffer.reserve(PIECE);
+            self.cutter.buffer.reserve(PIECE_BYTES);
             let read = self.output.read_buf(&mut self.cutter.buffer).await.map_err(Halt::Gone)?;
             if read == 0 {
                 return Err(Halt::Gone(std::io::ErrorKind::UnexpectedEof.into()));

@@ -7,10 +7,10 @@ use anyhow::{anyhow, bail, Context, Result};
 
 use super::events::Event;
 use crate::misuse::Misuse;
-use crate::watch::{watching, Reply, Shown, Told, SHOW};
+use crate::watch::{watching, OutputLine, Reply, Shown, SHOW};
 
 /// What came of one line that isn't blank.
-pub struct Step {
+pub struct RunStep {
     /// The number of the line.
     pub line: usize,
     pub event: Event,
@@ -26,7 +26,7 @@ pub struct Step {
 pub struct Run {
     /// What the chain holds at first.
     pub before: Shown,
-    pub steps: Vec<Step>,
+    pub steps: Vec<RunStep>,
 }
 
 /// The numbers of lines that are none of a script.
@@ -55,11 +55,11 @@ pub fn run(program: &str, servers: u8, lines: &[&str]) -> Result<Run> {
 }
 
 /// What stands before the next line that shows, and that line.
-fn read_step(lines: &mut impl Iterator<Item = std::io::Result<String>>) -> Result<(Option<Told>, Shown)> {
+fn read_step(lines: &mut impl Iterator<Item = std::io::Result<String>>) -> Result<(Option<OutputLine>, Shown)> {
     let mut earlier = None;
     for line in lines {
-        match Told::of(&line?).context("cq said what can't be read")? {
-            Told::Shown(shown) => return Ok((earlier, shown)),
+        match OutputLine::of(&line?).context("cq said what can't be read")? {
+            OutputLine::Shown(shown) => return Ok((earlier, shown)),
             told => earlier = Some(told),
         }
     }
@@ -77,15 +77,15 @@ fn read(output: impl BufRead, script: &[&str]) -> Result<Run> {
         }
         let line = index + 1;
         let (answer, refused) = match told {
-            Some(Told::Refused { code, .. }) if NO_LINE.contains(&code) => {
+            Some(OutputLine::Refused { code, .. }) if NO_LINE.contains(&code) => {
                 bail!(Misuse(format!("line {line} is none of a script (docs/LINES.md)")))
             }
-            Some(Told::Refused { name, .. }) => (None, Some(name)),
-            Some(Told::Answer(answer)) => (Some(answer), None),
+            Some(OutputLine::Refused { name, .. }) => (None, Some(name)),
+            Some(OutputLine::Answer(answer)) => (Some(answer), None),
             _ => (None, None),
         };
         let event = Event::of(text).with_context(|| format!("line {line} can't be drawn"))?;
-        steps.push(Step { line, event, answer, refused, after });
+        steps.push(RunStep { line, event, answer, refused, after });
     }
     Ok(Run { before, steps })
 }

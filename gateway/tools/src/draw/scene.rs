@@ -5,7 +5,7 @@ use std::collections::{BTreeSet, HashMap, VecDeque};
 use serde_json::Value;
 
 use super::events::Event;
-use super::run::{Run, Step};
+use super::run::{Run, RunStep};
 use crate::watch::{Party, Reply, Shown, ShownServer};
 
 /// Whose line of time it is, in the order in which they stand.
@@ -223,7 +223,7 @@ impl Growing {
         place
     }
 
-    fn comes(&mut self, step: &Step, client: u32, at: u32, what: &str) -> String {
+    fn comes(&mut self, step: &RunStep, client: u32, at: u32, what: &str) -> String {
         let (from, to) = (self.lane(Actor::Client(client)), self.lane(Actor::Server(at)));
         let label = match &step.refused {
             Some(name) => format!("{what}: {name}"),
@@ -234,7 +234,7 @@ impl Growing {
         format!("client {client} asks server {at}: {what}")
     }
 
-    fn put(&mut self, before: &Shown, step: &Step, from: Party, to: Party) -> String {
+    fn put(&mut self, before: &Shown, step: &RunStep, from: Party, to: Party) -> String {
         let client = step.answer.as_ref().map_or(0, |answer| answer.client);
         let sender = self.lane_of(from, client);
         if let Some(name) = &step.refused {
@@ -255,7 +255,7 @@ impl Growing {
         format!("{from} puts {label} for {to}")
     }
 
-    fn take(&mut self, step: &Step, from: Party, to: Party) -> String {
+    fn take(&mut self, step: &RunStep, from: Party, to: Party) -> String {
         if let Some(name) = &step.refused {
             self.mark(self.lane_of(to, 0), Kind::Refusal, name.clone());
             return format!("{to} takes nothing of {from}");
@@ -268,7 +268,7 @@ impl Growing {
     }
 
     /// An event of one server, or of the master on its own.
-    fn by_itself(&mut self, step: &Step, lane: Actor, (kind, text): (Kind, String), says: String) -> String {
+    fn by_itself(&mut self, step: &RunStep, lane: Actor, (kind, text): (Kind, String), says: String) -> String {
         let lane = self.lane(lane);
         match &step.refused {
             Some(name) => self.mark(lane, Kind::Refusal, format!("{text}: {name}")),
@@ -282,7 +282,7 @@ impl Growing {
         says
     }
 
-    fn event(&mut self, before: &Shown, step: &Step) -> String {
+    fn event(&mut self, before: &Shown, step: &RunStep) -> String {
         match &step.event {
             Event::Comes { client, at, what } => self.comes(step, *client, *at, what),
             Event::Put { from, to } => self.put(before, step, *from, *to),
@@ -317,7 +317,7 @@ impl Growing {
         said
     }
 
-    fn step(&mut self, before: &Shown, step: &Step) {
+    fn step(&mut self, before: &Shown, step: &RunStep) {
         let mut says = self.event(before, step);
         if let Some(name) = &step.refused {
             says.push_str(&format!(" (refused: {name})"));

@@ -6,14 +6,14 @@ use std::io::{self, Write};
 use super::scene::{Actor, Arrow, Carried, Kind, Lane, Mark, Scene};
 
 /// Where the first lane stands: before it are the numbers of lines.
-const LEFT: f64 = 84.0;
+const LEFT_PIXELS: f64 = 84.0;
 /// What the master does by itself stands behind its lane.
-const RIGHT: f64 = 190.0;
+const RIGHT_PIXELS: f64 = 190.0;
 /// Where row 0 is: above it are the names.
-const TOP: f64 = 62.0;
-const BOTTOM: f64 = 30.0;
+const TOP_PIXELS: f64 = 62.0;
+const BOTTOM_PIXELS: f64 = 30.0;
 /// How wide a letter is at most, in the mean.
-const LETTER: f64 = 6.1;
+const LETTER_PIXELS: f64 = 6.1;
 /// The shortest label.
 const LEAST_LETTERS: usize = 14;
 
@@ -45,7 +45,7 @@ fn space(left: Actor, right: Actor) -> f64 {
 impl Plan {
     fn of(scene: &Scene) -> Plan {
         let mut lanes = Vec::new();
-        let mut x = LEFT;
+        let mut x = LEFT_PIXELS;
         for (place, lane) in scene.lanes.iter().enumerate() {
             if place > 0 {
                 x += space(scene.lanes[place - 1].actor, lane.actor);
@@ -54,8 +54,8 @@ impl Plan {
         }
         let rows = scene.rows.len();
         let row = if rows <= 60 { 26.0 } else { 20.0 };
-        let height = TOP + row * (rows as f64 + 1.0) + BOTTOM;
-        Plan { lanes, row, width: x + RIGHT, height }
+        let height = TOP_PIXELS + row * (rows as f64 + 1.0) + BOTTOM_PIXELS;
+        Plan { lanes, row, width: x + RIGHT_PIXELS, height }
     }
 
     fn x(&self, lane: usize) -> f64 {
@@ -63,11 +63,11 @@ impl Plan {
     }
 
     fn y(&self, row: usize) -> f64 {
-        TOP + self.row * row as f64
+        TOP_PIXELS + self.row * row as f64
     }
 
     fn bottom(&self) -> f64 {
-        self.height - BOTTOM
+        self.height - BOTTOM_PIXELS
     }
 }
 
@@ -88,7 +88,7 @@ fn escaped(text: &str) -> String {
 
 /// The text, cut where it is longer than that space.
 fn cut(text: &str, space: f64) -> String {
-    let most = ((space / LETTER) as usize).max(LEAST_LETTERS);
+    let most = ((space / LETTER_PIXELS) as usize).max(LEAST_LETTERS);
     if text.chars().count() <= most {
         return text.into();
     }
@@ -142,7 +142,7 @@ fn lane(out: &mut String, plan: &Plan, place: usize, lane: &Lane) {
         return;
     }
     let end = lane.crashes.map_or(plan.bottom(), |row| plan.y(row));
-    line(out, "lane", (x, plan.y(lane.begins).max(TOP - 12.0)), (x, end), "");
+    line(out, "lane", (x, plan.y(lane.begins).max(TOP_PIXELS - 12.0)), (x, end), "");
     if lane.crashes.is_some() {
         line(out, "lane down", (x, end), (x, plan.bottom()), "");
     }
@@ -150,7 +150,7 @@ fn lane(out: &mut String, plan: &Plan, place: usize, lane: &Lane) {
 
 impl Plan {
     fn rows(&self) -> usize {
-        ((self.height - TOP - BOTTOM) / self.row) as usize
+        ((self.height - TOP_PIXELS - BOTTOM_PIXELS) / self.row) as usize
     }
 }
 

@@ -1,18 +1,18 @@
 //! What is made of a run that is told.
 
 use super::events::Event;
-use super::run::{Run, Step};
+use super::run::{Run, RunStep};
 use super::scene::{Kind, Scene};
 use super::{svg, text};
-use crate::watch::{Shown, Told};
+use crate::watch::{OutputLine, Shown};
 
 /// A chain of two servers, of which the first has so many entries; with what is on its way.
 fn shown(count: u64, is_down: bool, ways: &str) -> Shown {
     let line = format!(
         r#"{{"chain":[1,2],"joins":null,"kind":"show","ready":true,"servers":[{{"acked":0,"acts":false,"count":{count},"down":{is_down},"full":true,"head":true,"server":1}},{{"acked":0,"acts":true,"count":0,"down":false,"full":true,"head":false,"server":2}}],"ways":[{ways}]}}"#
     );
-    match Told::of(&line) {
-        Ok(Told::Shown(shown)) => shown,
+    match OutputLine::of(&line) {
+        Ok(OutputLine::Shown(shown)) => shown,
         other => panic!("{other:?}"),
     }
 }
@@ -34,7 +34,7 @@ fn run() -> Run {
     ];
     let steps = lines.into_iter().enumerate().map(|(index, (line, after, refused))| {
         let event = Event::of(line).expect(line);
-        Step { line: index + 1, event, answer: None, refused, after }
+        RunStep { line: index + 1, event, answer: None, refused, after }
     });
     Run { before: shown(0, false, ""), steps: steps.collect() }
 }

@@ -5,11 +5,11 @@ use std::io::{self, Write};
 use super::scene::{Arrow, Kind, Lane, Scene};
 
 /// How many letters a lane takes.
-const LANE: usize = 11;
+const LANE_LETTERS: usize = 11;
 
 /// The letters of a row, with the lines of all lanes that there are in it.
 fn lines(scene: &Scene, row: usize) -> Vec<char> {
-    let mut letters = vec![' '; LANE * scene.lanes.len()];
+    let mut letters = vec![' '; LANE_LETTERS * scene.lanes.len()];
     for (place, lane) in scene.lanes.iter().enumerate() {
         letters[middle(place)] = line(lane, row);
     }
@@ -17,7 +17,7 @@ fn lines(scene: &Scene, row: usize) -> Vec<char> {
 }
 
 fn middle(place: usize) -> usize {
-    LANE * place + LANE / 2
+    LANE_LETTERS * place + LANE_LETTERS / 2
 }
 
 fn line(lane: &Lane, row: usize) -> char {
@@ -62,7 +62,7 @@ fn row_letters(scene: &Scene, row: usize) -> String {
 }
 
 fn heading(scene: &Scene, said: impl Fn(&Lane) -> String) -> String {
-    scene.lanes.iter().map(|lane| format!("{:^LANE$}", said(lane))).collect()
+    scene.lanes.iter().map(|lane| format!("{:^LANE_LETTERS$}", said(lane))).collect()
 }
 
 /// Writes the picture: a row for each event, and what happens in it at the end of the row.

@@ -31,7 +31,7 @@ use stored::{chunk_of, request_of, LOAD};
 
 /// What is said of a whole history.
 #[derive(Clone, Copy, Debug, Default, PartialEq, Eq)]
-pub struct Told {
+pub struct Verdict {
     /// The rules allow so many answers.
     allowed: u64,
     /// They say nothing of so many.
@@ -42,8 +42,8 @@ pub struct Told {
 
 /// Reads a history, and says whether the rules allow it. A line that is none is an error that says which one. Takes time in
 /// proportion to the lines, and a receive of fewer messages than it asked for to the groups of its queue.
-pub fn check(input: impl BufRead, out: &mut impl Write) -> Result<Told> {
-    let (mut judges, mut told, mut last) = (Judges::default(), Told::default(), 0);
+pub fn check(input: impl BufRead, out: &mut impl Write) -> Result<Verdict> {
+    let (mut judges, mut told, mut last) = (Judges::default(), Verdict::default(), 0);
     for (place, text) in input.lines().enumerate() {
         let (number, text) = (place + 1, text?);
         if text.trim().is_empty() {
@@ -64,7 +64,7 @@ pub fn check(input: impl BufRead, out: &mut impl Write) -> Result<Told> {
             }
         }
     }
-    let Told { allowed, not_judged, .. } = told;
+    let Verdict { allowed, not_judged, .. } = told;
     writeln!(out, "{allowed} answers are as the rules say; of {not_judged} they say nothing")?;
     Ok(told)
 }

@@ -10,20 +10,20 @@ use super::finding::{Finding, Judged, Rule};
 use super::line::{number, objects, text, Line, Members};
 
 /// A send with the id of an earlier one adds nothing for so long, and a receive with an earlier attempt id gives the same.
-const REMEMBERED: u64 = 300_000;
+const REMEMBERED_MILLISECONDS: u64 = 300_000;
 
 /// A purge may take so long, and another one is refused for so long.
-const PURGING: u64 = 60_000;
+const PURGING_MILLISECONDS: u64 = 60_000;
 
 /// From its last handing on a message is hidden for at most so long.
-const LONGEST_HIDDEN: u64 = 43_200_000;
+const LONGEST_HIDDEN_MILLISECONDS: u64 = 43_200_000;
 
-const LONGEST_TIMEOUT: i64 = 43_200;
+const LONGEST_TIMEOUT_SECONDS: i64 = 43_200;
 const MOST_HANDED: i64 = 10;
 
 /// A body of so many bytes is taken by every service, and one of more than the second number by none.
-const SURE_BODY: usize = 262_144;
-const LONGEST_BODY: usize = 1 << 20;
+const SURE_BODY_BYTES: usize = 262_144;
+const LONGEST_BODY_BYTES: usize = 1 << 20;
 
 /// What the rules speak of, with its value where none is given.
 const DEFAULTS: [(&str, &str); 8] = [
@@ -37,7 +37,7 @@ const DEFAULTS: [(&str, &str); 8] = [
     ("FifoQueue", "true"),
 ];
 
-struct Message {
+struct ServiceMessage {
     id: String,
     group: String,
     body: String,
@@ -65,9 +65,9 @@ struct Attempt {
 }
 
 /// One queue.
-pub struct Queue {
+pub struct ServiceQueue {
     attributes: BTreeMap<String, String>,
-    messages: Vec<Message>,
+    messages: Vec<ServiceMessage>,
     by_id: HashMap<String, usize>,
     /// Those that may be there, in the order of sending.
     groups: HashMap<String, VecDeque<usize>>,
@@ -82,9 +82,9 @@ pub struct Queue {
     is_beyond: bool,
 }
 
-impl Queue {
-    pub fn new(attributes: Vec<(String, String)>) -> Queue {
-        let mut queue = Queue {
+impl ServiceQueue {
+    pub fn new(attributes: Vec<(String, String)>) -> ServiceQueue {
+        let mut queue = ServiceQueue {
             attributes: BTreeMap::new(),
             messages: Vec::new(),
             by_id: HashMap::new(),
@@ -132,7 +132,7 @@ impl Queue {
         let is_purged = self.purge.filter(|(_, count)| place < *count);
         match is_purged {
             _ if message.is_deleted => Presence::Gone,
-            Some((at, _)) if now - at >= PURGING => Presence::Gone,
+            Some((at, _)) if now - at >= PURGING_MILLISECONDS => Presence::Gone,
             Some(_) => Presence::MaybeGone,
             None if now - message.sent >= retention.saturating_mul(1000) => Presence::MaybeGone,
             None => Presence::Here,
@@ -153,7 +153,7 @@ impl Queue {
         if let Some((codes, why, rule)) = self.why_not_sent(request) {
             return line.refused(&codes, why, rule);
         }
-        if body.len() > SURE_BODY && line.told().is_err() {
+        if body.len() > SURE_BODY_BYTES && line.told().is_err() {
             // Whether it is too long is the service's choice.
             return Ok(Judged::Not);
         }
@@ -170,7 +170,7 @@ impl Queue {
                 Rule::Send,
             ));
         }
-        if let Some((_, first)) = self.accepted.get(&key).filter(|(at, _)| line.at - at < REMEMBERED) {
+        if let Some((_, first)) = self.accepted.get(&key).filter(|(at, _)| line.at - at < REMEMBERED_MILLISECONDS) {
             let first = &self.messages[*first].id;
             if first != id {
                 let allowed = format!(
@@ -197,7 +197,16 @@ impl Queue {
         self.accepted.insert(key, (now, place));
         self.by_id.insert(id.clone(), place);
         self.groups.entry(group.clone()).or_default().push_back(place);
-        self.messages.push(Message { id, group, body, sent: now, handings: 0, handed: 0, until: 0, is_deleted: false });
+        self.messages.push(ServiceMessage {
+            id,
+            group,
+            body,
+            sent: now,
+            handings: 0,
+            handed: 0,
+            until: 0,
+            is_deleted: false,
+        });
     }
 
     /// Why a send can't be taken, by which codes, and by which rule.
@@ -225,7 +234,7 @@ impl Queue {
             let why = "its body has a character that no message may have";
             reasons.push((["InvalidMessageContents"; 2], why, Rule::Texts));
         }
-        if body.len() > LONGEST_BODY {
+        if body.len() > LONGEST_BODY_BYTES {
             reasons.push((["InvalidParameterValue", "BatchRequestTooLong"], "its body is too long", Rule::Texts));
         }
         let (_, why, rule) = *reasons.first()?;
@@ -240,7 +249,7 @@ impl Queue {
         let request = &line.request;
         let size = number(request, "MaxNumberOfMessages").unwrap_or(1);
         let timeout = number(request, "VisibilityTimeout").unwrap_or(self.timeout() as i64);
-        if !(1..=MOST_HANDED).contains(&size) || !(0..=LONGEST_TIMEOUT).contains(&timeout) {
+        if !(1..=MOST_HANDED).contains(&size) || !(0..=LONGEST_TIMEOUT_SECONDS).contains(&timeout) {
             return line.refused(
                 &["InvalidParameterValue"],
                 "a size is 1 to 10, and a timeout 0 to 43200",
@@ -277,7 +286,7 @@ impl Queue {
             let is_last = self.messages[*place].handings == *handing;
             is_last && self.presence(*place, now) == Presence::Here && self.is_in_flight(*place, now)
         };
-        let is_good = now - at < REMEMBERED && given.iter().all(is_held);
+        let is_good = now - at < REMEMBERED_MILLISECONDS && given.iter().all(is_held);
         is_good.then(|| given.iter().map(|(place, _)| *place).collect())
     }
 
@@ -360,7 +369,7 @@ impl Queue {
         match self.groups.values().filter(is_open).find_map(|group| group.iter().find(is_left)) {
             None => Ok(()),
             Some(left) => {
-                let Message { id, group, body, .. } = &self.messages[*left];
+                let ServiceMessage { id, group, body, .. } = &self.messages[*left];
                 let allowed = format!(
                     "{id} ({}) of group {group} is there, and no message of its group is in flight: up to {size} are handed",
                     shown(body)
@@ -430,7 +439,7 @@ impl Queue {
     pub fn change(&mut self, line: &Line, request: &Members) -> Result<Judged, Finding> {
         let handle = text(request, "ReceiptHandle").unwrap_or_default();
         let timeout = number(request, "VisibilityTimeout").unwrap_or(self.timeout() as i64);
-        if !(0..=LONGEST_TIMEOUT).contains(&timeout) {
+        if !(0..=LONGEST_TIMEOUT_SECONDS).contains(&timeout) {
             return line.refused(&["InvalidParameterValue"], "a timeout is 0 to 43200", Rule::Change);
         }
         let Some((place, handing)) = self.handles.get(handle).copied() else {
@@ -452,7 +461,7 @@ impl Queue {
         if !self.is_in_flight(place, line.at) {
             return line.refused(&["MessageNotInflight"], "its message isn't in flight", Rule::Change);
         }
-        if until > message.handed + LONGEST_HIDDEN {
+        if until > message.handed + LONGEST_HIDDEN_MILLISECONDS {
             let why = "its message would be hidden for more than twelve hours from its last handing on";
             return line.refused(&["InvalidParameterValue"], why, Rule::Change);
         }
@@ -465,7 +474,7 @@ impl Queue {
     // ---- the whole queue
 
     pub fn purge(&mut self, line: &Line) -> Result<Judged, Finding> {
-        if self.purge.is_some_and(|(at, _)| line.at - at < PURGING) {
+        if self.purge.is_some_and(|(at, _)| line.at - at < PURGING_MILLISECONDS) {
             return line.refused(&["PurgeQueueInProgress"], "one was begun within the last minute", Rule::Purge);
         }
         line.done("its queue is there, and none was begun within the last minute", Rule::Purge)?;
@@ -512,8 +521,8 @@ fn finding(told: String, allowed: &str, rule: Rule) -> Finding {
 
 /// A body as it is shown: its front.
 fn shown(body: &str) -> String {
-    const MOST: usize = 40;
-    let front: String = body.chars().take(MOST).collect();
+    const MOST_CHARACTERS: usize = 40;
+    let front: String = body.chars().take(MOST_CHARACTERS).collect();
     let more = if front.len() < body.len() { ".." } else { "" };
     format!("{front:?}{more}")
 }

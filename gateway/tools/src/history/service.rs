@@ -7,10 +7,10 @@ use serde_json::Value;
 
 use super::finding::{Finding, Judged, Rule};
 use super::line::{attributes, bare, objects, queue_of, text, Line, Members, Refusal};
-use super::queue::Queue;
+use super::queue::ServiceQueue;
 
 /// So long the name of a removed queue isn't free, and so long a removal may take.
-const REMOVING: u64 = 60_000;
+const REMOVING_MILLISECONDS: u64 = 60_000;
 
 /// No batch has more entries.
 const MOST_ENTRIES: usize = 10;
@@ -20,21 +20,21 @@ const NO_QUEUE: [&str; 2] = ["QueueDoesNotExist", "InvalidAddress"];
 
 /// A name, and the queue that goes by it, if one does.
 #[derive(Default)]
-struct Name {
-    queue: Option<Queue>,
+struct ServiceName {
+    queue: Option<ServiceQueue>,
     removed: Option<u64>,
 }
 
 /// A service of queues. Names that aren't known were never used.
 #[derive(Default)]
 pub struct Service {
-    names: HashMap<String, Name>,
+    names: HashMap<String, ServiceName>,
 }
 
 type Judging = Result<Judged, Finding>;
 
 /// One entry of a batch, as an action of its own.
-type JudgingOne = fn(&mut Queue, &Line, &Members) -> Judging;
+type JudgingOne = fn(&mut ServiceQueue, &Line, &Members) -> Judging;
 
 impl Service {
     /// What the rules say of an answer. Behind one that they don't allow this is of no use any more.
@@ -51,9 +51,9 @@ impl Service {
             "ReceiveMessage" => self.of_queue(line, |queue| queue.receive(line)),
             "DeleteMessage" => self.of_queue(line, |queue| queue.delete(line, &line.request)),
             "ChangeMessageVisibility" => self.of_queue(line, |queue| queue.change(line, &line.request)),
-            "SendMessageBatch" => self.of_queue(line, |queue| batch(queue, line, Queue::send)),
-            "DeleteMessageBatch" => self.of_queue(line, |queue| batch(queue, line, Queue::delete)),
-            "ChangeMessageVisibilityBatch" => self.of_queue(line, |queue| batch(queue, line, Queue::change)),
+            "SendMessageBatch" => self.of_queue(line, |queue| batch(queue, line, ServiceQueue::send)),
+            "DeleteMessageBatch" => self.of_queue(line, |queue| batch(queue, line, ServiceQueue::delete)),
+            "ChangeMessageVisibilityBatch" => self.of_queue(line, |queue| batch(queue, line, ServiceQueue::change)),
             "PurgeQueue" => self.of_queue(line, |queue| queue.purge(line)),
             "GetQueueAttributes" => self.of_queue(line, |queue| queue.counts(line, &line.answer_attributes())),
             "SetQueueAttributes" => self.of_queue(line, |queue| set(queue, line)),
@@ -63,20 +63,22 @@ impl Service {
 
     /// Judges what is asked of a queue that is there. Of standard queues, and of those with delays and dead letters, the rules say
     /// nothing.
-    fn of_queue(&mut self, line: &Line, judge: impl FnOnce(&mut Queue) -> Judging) -> Judging {
+    fn of_queue(&mut self, line: &Line, judge: impl FnOnce(&mut ServiceQueue) -> Judging) -> Judging {
         let name = queue_of(&line.request).unwrap_or_default();
         if QueueName::parse(name).is_some_and(|name| name.kind() == QueueKind::Standard) {
             return Ok(Judged::Not);
         }
         match self.names.get_mut(name) {
-            Some(Name { queue: Some(queue), .. }) => {
+            Some(ServiceName { queue: Some(queue), .. }) => {
                 if queue.is_beyond() && line.action != "SetQueueAttributes" {
                     return Ok(Judged::Not);
                 }
                 judge(queue)
             }
             // What is asked while it is being removed may still be done.
-            Some(Name { removed: Some(removed), .. }) if line.at - *removed < REMOVING && line.told().is_ok() => {
+            Some(ServiceName { removed: Some(removed), .. })
+                if line.at - *removed < REMOVING_MILLISECONDS && line.told().is_ok() =>
+            {
                 Ok(Judged::Not)
             }
             _ => line.refused(&NO_QUEUE, "there is no such queue", Rule::Remove),
@@ -112,7 +114,7 @@ impl Service {
                     None => line.done("it is there with the same attributes", Rule::Create).map(|_| Judged::Allowed),
                 }
             }
-            None if known.removed.is_some_and(|removed| line.at - removed < REMOVING) => {
+            None if known.removed.is_some_and(|removed| line.at - removed < REMOVING_MILLISECONDS) => {
                 line.refused(&["QueueDeletedRecently"], "it was removed within the last minute", Rule::Create)
             }
             None => match line.told() {
@@ -120,7 +122,7 @@ impl Service {
                 Err(code) if code.starts_with("InvalidAttribute") || code == "InvalidParameterValue" => Ok(Judged::Not),
                 _ => {
                     line.done("no queue has its name, and none had it within the last minute", Rule::Create)?;
-                    known.queue = Some(Queue::new(given));
+                    known.queue = Some(ServiceQueue::new(given));
                     Ok(Judged::Allowed)
                 }
             },
@@ -144,8 +146,10 @@ impl Service {
             return Ok(Judged::Not);
         }
         match self.names.get(name) {
-            Some(Name { queue: Some(_), .. }) => line.done("it is there", Rule::Create).map(|_| Judged::Allowed),
-            Some(Name { removed: Some(removed), .. }) if line.at - removed < REMOVING => Ok(Judged::Not),
+            Some(ServiceName { queue: Some(_), .. }) => line.done("it is there", Rule::Create).map(|_| Judged::Allowed),
+            Some(ServiceName { removed: Some(removed), .. }) if line.at - removed < REMOVING_MILLISECONDS => {
+                Ok(Judged::Not)
+            }
             _ => line.refused(&NO_QUEUE, "there is no such queue", Rule::Remove),
         }
     }
@@ -162,7 +166,7 @@ impl Service {
         let missing = self.names.iter().find(|(name, one)| one.queue.is_some() && !told.contains(*name));
         let is_there = |name: &String| {
             self.names.get(name).is_some_and(|one| {
-                one.queue.is_some() || one.removed.is_some_and(|removed| line.at - removed < REMOVING)
+                one.queue.is_some() || one.removed.is_some_and(|removed| line.at - removed < REMOVING_MILLISECONDS)
             })
         };
         let wrong = |name: &str, why: &str| {
@@ -183,7 +187,7 @@ impl Line {
     }
 }
 
-fn set(queue: &mut Queue, line: &Line) -> Judging {
+fn set(queue: &mut ServiceQueue, line: &Line) -> Judging {
     if line.told().is_ok() {
         queue.set(attributes(&line.request, "Attributes"));
     }
@@ -192,7 +196,7 @@ fn set(queue: &mut Queue, line: &Line) -> Judging {
 }
 
 /// Judges each entry of a batch as an action of its own, in order.
-fn batch(queue: &mut Queue, line: &Line, judge: JudgingOne) -> Judging {
+fn batch(queue: &mut ServiceQueue, line: &Line, judge: JudgingOne) -> Judging {
     let entries = objects(&line.request, "Entries");
     if let Some((code, why)) = why_no_batch(&entries) {
         return line.refused(&[code], why, Rule::Batches);

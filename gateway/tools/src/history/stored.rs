@@ -34,7 +34,7 @@ fn read_receipt(text: &str) -> Result<Receipt, String> {
 }
 
 /// What a store answered: members, or the code of a refusal.
-pub type Told = Result<Members, String>;
+pub type StoredAnswer = Result<Members, String>;
 
 /// The action of a line that is no request: it has a chunk of the store with which a file begins.
 pub const LOAD: &str = "LoadStore";
@@ -67,7 +67,7 @@ fn action_of(ask: &StoreAsk) -> &'static str {
 }
 
 /// The line of a request to the store of the file of this number, at this moment.
-pub fn line_of_request(request: &StoreRequest, file: u64, at: u64, told: Told) -> Line {
+pub fn line_of_request(request: &StoreRequest, file: u64, at: u64, told: StoredAnswer) -> Line {
     let (answer, error) = match told {
         Ok(answer) => (Some(answer), None),
         Err(code) => (None, Some(Refusal { code })),
@@ -138,7 +138,7 @@ pub fn request_of(line: &Line, store: OfStore) -> Result<StoreRequest, String> {
 
 /// How the store's reply to a request stands in a line. `incarnation` is that of the queue to which a message was sent; where it is
 /// 0, that isn't known, and no MessageId is told. None: it is the reply to no request.
-pub fn told(request: &StoreRequest, incarnation: u64, reply: &StoreReply) -> Option<Told> {
+pub fn told(request: &StoreRequest, incarnation: u64, reply: &StoreReply) -> Option<StoredAnswer> {
     let mut answer = Members::new();
     let mut put = |name: &str, value: Value| drop(answer.insert(name.into(), value));
     match reply {

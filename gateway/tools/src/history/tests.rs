@@ -2,7 +2,7 @@
 
 use serde_json::{json, Value};
 
-use super::{check, Told};
+use super::{check, Verdict};
 
 /// A history that is written by a test.
 #[derive(Default)]
@@ -61,7 +61,7 @@ impl History {
         self.done("DeleteMessage", History::of_handle(handle), json!({}))
     }
 
-    fn told(&self) -> (Told, String) {
+    fn told(&self) -> (Verdict, String) {
         let text: String = self.lines.iter().map(|line| format!("{line}\n")).collect();
         let mut out = Vec::new();
         let told = check(text.as_bytes(), &mut out).unwrap();

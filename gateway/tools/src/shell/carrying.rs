@@ -12,7 +12,7 @@ use super::words::Word;
 use crate::watch::{Party, Reply, Way};
 
 /// A request takes so long by the clock.
-const REQUEST_TIME: u64 = 1_000;
+const REQUEST_MILLISECONDS: u64 = 1_000;
 
 /// More messages than that are never on their way for what one word does.
 const MOST_MOVES: usize = 100_000;
@@ -121,7 +121,7 @@ impl Carrier {
         let Some(head) = self.session.shown.head() else {
             return Ok(format!("no server is the head: {}", self.advice()));
         };
-        self.clock += REQUEST_TIME;
+        self.clock += REQUEST_MILLISECONDS;
         let Request { client, number, ask } = request;
         let line =
             json!({"op": "arrive", "at": head, "clock": self.clock, "client": client, "number": number, "ask": ask});

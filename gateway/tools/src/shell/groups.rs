@@ -7,7 +7,7 @@ use serde_json::Value;
 use crate::watch::Reply;
 
 /// The visibility timeout of a queue that was made without one, in seconds.
-const VISIBILITY: u64 = 30;
+const VISIBILITY_SECONDS: u64 = 30;
 
 /// A request that isn't answered yet.
 struct Open {
@@ -17,19 +17,19 @@ struct Open {
 }
 
 /// A message that wasn't deleted.
-struct Message {
+struct ShellMessage {
     group: String,
     /// It is in flight before this moment.
     until: u64,
 }
 
 #[derive(Default)]
-struct Queue {
+struct ShellQueue {
     incarnation: u64,
     /// In seconds.
     visibility: u64,
     /// By their places.
-    messages: BTreeMap<u64, Message>,
+    messages: BTreeMap<u64, ShellMessage>,
     deleted: BTreeSet<u64>,
 }
 
@@ -44,7 +44,7 @@ pub struct Count {
 #[derive(Default)]
 pub struct Groups {
     open: HashMap<(u32, u64), Open>,
-    queues: HashMap<String, Queue>,
+    queues: HashMap<String, ShellQueue>,
     /// The clock of the last request that was answered.
     moment: u64,
 }
@@ -81,8 +81,8 @@ impl Groups {
         let incarnation = reply["incarnation"].as_u64().unwrap_or_default();
         let queue = self.queues.entry(name.into()).or_default();
         if queue.incarnation != incarnation {
-            let visibility = ask["visibility"].as_u64().unwrap_or(VISIBILITY);
-            *queue = Queue { incarnation, visibility, ..Queue::default() };
+            let visibility = ask["visibility"].as_u64().unwrap_or(VISIBILITY_SECONDS);
+            *queue = ShellQueue { incarnation, visibility, ..ShellQueue::default() };
         }
     }
 
@@ -101,7 +101,7 @@ impl Groups {
     }
 }
 
-impl Queue {
+impl ShellQueue {
     fn hear(&mut self, clock: u64, ask: &Value, reply: &Value) {
         let end = |visibility: u64| clock + 1_000 * visibility;
         match reply["kind"].as_str() {
@@ -134,7 +134,7 @@ impl Queue {
     fn add(&mut self, place: Option<u64>, group: &Value, until: u64) {
         let Some(place) = place.filter(|place| !self.deleted.contains(place)) else { return };
         let group = group.as_str().unwrap_or_default().into();
-        self.messages.entry(place).or_insert(Message { group, until });
+        self.messages.entry(place).or_insert(ShellMessage { group, until });
     }
 }
 

@@ -6,7 +6,7 @@ use std::process::{Child, ChildStdin, ChildStdout};
 use anyhow::{Context, Result};
 use serde_json::Value;
 
-use crate::watch::{watching, Reply, Shown, Told, SHOW};
+use crate::watch::{watching, OutputLine, Reply, Shown, SHOW};
 
 /// What came of a line.
 #[derive(Clone, Debug)]
@@ -60,10 +60,10 @@ impl Session {
 fn read(output: &mut Lines<BufReader<ChildStdout>>) -> Result<(Outcome, Shown)> {
     let mut outcome = Outcome::Nothing;
     for line in output {
-        match Told::of(&line?).context("cq said what can't be read")? {
-            Told::Shown(shown) => return Ok((outcome, shown)),
-            Told::Answer(answer) => outcome = Outcome::Answer(answer),
-            Told::Refused { name, .. } => outcome = Outcome::Refused(name),
+        match OutputLine::of(&line?).context("cq said what can't be read")? {
+            OutputLine::Shown(shown) => return Ok((outcome, shown)),
+            OutputLine::Answer(answer) => outcome = Outcome::Answer(answer),
+            OutputLine::Refused { name, .. } => outcome = Outcome::Refused(name),
         }
     }
     anyhow::bail!("cq is gone, or too old to show what a chain holds")

@@ -65,7 +65,7 @@ The shell:
   help, quit";
 
 /// What a queue's visibility timeout may be at most, in seconds.
-const LONGEST: u64 = 43_200;
+const LONGEST_TIMEOUT_SECONDS: u64 = 43_200;
 
 fn number<T: TryFrom<u64>>(word: &str, what: &str, least: u64, most: u64) -> Result<T, String> {
     let number = word.parse::<u64>().ok().filter(|number| (least..=most).contains(number));
@@ -78,7 +78,7 @@ fn server(word: &str) -> Result<u32, String> {
 }
 
 fn seconds(word: &str) -> Result<u64, String> {
-    number(word, "time in seconds", 0, LONGEST)
+    number(word, "time in seconds", 0, LONGEST_TIMEOUT_SECONDS)
 }
 
 /// An ask with those keys that have a value.

@@ -4,7 +4,7 @@ mod told;
 
 use std::process::{Command, Stdio};
 
-pub use told::{Party, Reply, Shown, ShownServer, Told, Way};
+pub use told::{OutputLine, Party, Reply, Shown, ShownServer, Way};
 
 /// The line that asks what the chain holds.
 pub const SHOW: &str = r#"{"op":"show"}"#;

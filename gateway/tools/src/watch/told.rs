@@ -142,27 +142,27 @@ pub struct Reply {
 
 /// A line of output.
 #[derive(Clone, Debug, PartialEq)]
-pub enum Told {
+pub enum OutputLine {
     Shown(Shown),
     Answer(Reply),
     Refused { code: u16, name: String },
 }
 
-impl Told {
-    pub fn of(line: &str) -> serde_json::Result<Told> {
+impl OutputLine {
+    pub fn of(line: &str) -> serde_json::Result<OutputLine> {
         let value: Value = serde_json::from_str(line)?;
         if value["kind"] == "show" {
-            return Ok(Told::Shown(Shown::deserialize(value)?));
+            return Ok(OutputLine::Shown(Shown::deserialize(value)?));
         }
         if value.get("reply").is_some() {
-            return Ok(Told::Answer(Reply::deserialize(value)?));
+            return Ok(OutputLine::Answer(Reply::deserialize(value)?));
         }
         #[derive(Deserialize)]
-        struct Refusal {
+        struct RefusedLine {
             refused: u16,
             name: String,
         }
-        let Refusal { refused, name } = Refusal::deserialize(value)?;
-        Ok(Told::Refused { code: refused, name })
+        let RefusedLine { refused, name } = RefusedLine::deserialize(value)?;
+        Ok(OutputLine::Refused { code: refused, name })
     }
 }

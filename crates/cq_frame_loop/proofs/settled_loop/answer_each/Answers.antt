@@ -8,6 +8,7 @@ use Rattle.cq_frame_loop.specs.within.Advances.{Advances}
 use Rattle.cq_frame_loop.proofs.Cuts.{nothing_passed, parts, parts_on, rest_fits, unfinished_behind}
 use Rattle.cq_frame_loop.proofs.Advancing.{told_same}
 use Rattle.cq_frame_loop.proofs.Settled.{last_or_more, passes_none, proceeded, proceeds_first, proceeds_on, settled_end, stops_at}
+use Rattle.cq_frame_loop.proofs.Waiting.{waits_proceeding}
 use Rattle.cq_frame_loop.proofs.settled_loop.answer_each.Goals as goal
 
 pub loop-frame-init : goal.loop-frame-init
@@ -92,3 +93,8 @@ returns-clause-settled g c = (settled_end g.H.SettlingHandler.answers (g.H.Settl
 
 pub returns-clause-nothing : goal.returns-clause-nothing
 returns-clause-nothing g c = (settled_end g.H.SettlingHandler.answers (g.H.SettlingHandler.is_settled c.loop-frame.handler) c.loop-frame.out.items c.loop-frame.rest.now c.loop-frame.invariant.8 c.in_default.ensures.unfinished).1
+
+pub answer_settled-requires-clause-waits : goal.answer_settled-requires-clause-waits
+answer_settled-requires-clause-waits g c =
+    let before = c.loop-frame.invariant in
+    waits_proceeding g.H.SettlingHandler.answers g.H.SettlingHandler.is_settled c.args.handler.now c.loop-frame.handler c.args.count c.loop-frame.passed c.args.bytes.now before.0 c.loop-frame.out.items c.loop-frame.rest.now before.2

@@ -101,8 +101,8 @@ returns-clause-answers g c =
     let all = all_answered g.H.SettlingHandler.answers c.args.handler.now c.loop.handler c.loop.passed read.0 read.1 (take c.loop.len c.loop.buffer) read.4 read.5 in
     (read.0, read.1, read.2, read.3, (omega (arith, read.10, c.loop-test.false), (all, read.13)), read.11)
 
-pub returns-in-Ok-flush_all-clause-answers : goal.returns-in-Ok-flush_all-clause-answers
-returns-in-Ok-flush_all-clause-answers g c =
+pub returns-in-Ok-pass_on-clause-answers : goal.returns-in-Ok-pass_on-clause-answers
+returns-in-Ok-pass_on-clause-answers g c =
     let read = c.loop.invariant in
     let room : 0 < length (drop c.loop.len c.read_behind.new.buffer) =
     omega (arith, read.6, c.requires.size, c.read_behind.auto.buffer, c.loop.auto.buffer, length-drop c.loop.len c.read_behind.new.buffer) in
@@ -112,20 +112,20 @@ returns-in-Ok-flush_all-clause-answers g c =
       read.0,
       read.1,
       input,
-      Appends-kept _ _ _ read.1 read.3 c.flush_all.ensures.kept,
+      Appends-kept _ _ _ read.1 read.3 c.pass_on.ensures.kept,
       (end, (all, read.13)),
-      (c.in-Ok-flush_all.ensures.sound, c.in-Ok-flush_all.ensures.flushed),
+      (c.in-Ok-pass_on.ensures.sound, c.in-Ok-pass_on.ensures.flushed),
     )
 
-pub returns-in-Err-flush_all-clause-answers : goal.returns-in-Err-flush_all-clause-answers
-returns-in-Err-flush_all-clause-answers g c =
+pub returns-in-Err-pass_on-clause-answers : goal.returns-in-Err-pass_on-clause-answers
+returns-in-Err-pass_on-clause-answers g c =
     let read = c.loop.invariant in
     let input = Consumes-nothing _ _ _ read.0 (drop c.loop.len c.read_behind.new.buffer) _ c.in-Ok-eq0.field-0-test read.2 c.in-Ok-eq0.ensures.bytes.0 in
     let all = all_answered g.H.SettlingHandler.answers c.args.handler.now c.loop.handler c.loop.passed read.0 read.1 (take c.loop.len c.loop.buffer) read.4 read.5 in (
       read.0,
       read.1,
       input,
-      Appends-kept _ _ _ read.1 read.3 c.flush_all.ensures.kept,
-      end_stops g.H.SettlingHandler.answers g.H.SettlingHandler.stops g.H.SettlingHandler.is_settled g.met.H.SettlingHandler.stops_none c.in-Err-flush_all.fault c.args.handler.now c.loop.handler read.0 read.1 _ c.in-Err-flush_all.ensures.kind all read.13,
-      end_leaves_settled c.in-Err-flush_all.fault read.0 _ _ c.in-Err-flush_all.ensures.kind c.in-Err-flush_all.ensures.leaves,
+      Appends-kept _ _ _ read.1 read.3 c.pass_on.ensures.kept,
+      end_stops g.H.SettlingHandler.answers g.H.SettlingHandler.stops g.H.SettlingHandler.is_settled g.met.H.SettlingHandler.stops_none c.in-Err-pass_on.fault c.args.handler.now c.loop.handler read.0 read.1 _ c.in-Err-pass_on.ensures.kind all read.13,
+      end_leaves_settled c.in-Err-pass_on.fault read.0 _ _ c.in-Err-pass_on.ensures.kind c.in-Err-pass_on.ensures.leaves,
     )

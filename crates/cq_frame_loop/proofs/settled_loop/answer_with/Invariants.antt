@@ -11,7 +11,7 @@ use Rattle.cq_frame_loop.proofs.settled_loop.answer_with.Given as goal
 abbrev pub invariant-loop : goal.invariant-loop
 invariant-loop g l =
     (input output : List ℕ) × Consumes (g.R.Read.remaining l.initial.reader) (g.R.Read.remaining l.reader) input
-    × Appends (g.W.Write.contents l.initial.writer) (g.W.Write.contents l.writer) output
+    × Appends (g.W.SettledSink.taken l.initial.writer) (g.W.SettledSink.taken l.writer) output
     × Advances g.H.SettlingHandler.answers l.initial.handler 0 input output l.handler l.passed (take l.len l.buffer)
     × (frames_behind l.passed (take l.len l.buffer) ≡ []) × (l.len < FRAME_LIMIT + 4) × (l.out.items ≡ []) × (l.end.items ≡ []) × (ANSWER_ROOM ≤ vec_capacity l.end)
-    × (l.counter ≤ length input) × ((input ≡ []) ⊎ (g.W.Sink.has_flushed l.writer ≡ true)) × g.H.SettlingHandler.is_ready l.handler × g.H.SettlingHandler.is_settled l.handler
+    × (l.counter ≤ length input) × ((input ≡ []) ⊎ (g.W.SettledSink.is_passed_on l.writer ≡ true)) × g.H.SettlingHandler.is_ready l.handler × g.H.SettlingHandler.is_settled l.handler

@@ -2,6 +2,7 @@
 use Rattle.std.proofs.Common.{[], ◌++◌}
 use Rattle.std.proofs.KnownBytes.{Appends-nil}
 use Rattle.cq_frame_loop.proofs.Settled.{answered_then, stops_first, stops_then}
+use Rattle.cq_frame_loop.proofs.Waiting.{waits_more}
 use Rattle.cq_frame_loop.proofs.settled_writing.answer_settled.Goals as goal
 
 pub returns-in-Ok-clause-answers : goal.returns-in-Ok-clause-answers
@@ -17,3 +18,8 @@ returns-in-Ok-clause-stops g c =
 pub returns-in-Err-clause-stops : goal.returns-in-Err-clause-stops
 returns-in-Err-clause-stops g c =
     ([], Appends-nil _, stops_first g.H.SettlingHandler.answers g.H.SettlingHandler.stops g.H.SettlingHandler.is_settled c.args.handler.now c.answer.new.self _ c.args.out.now.items c.in-Err.ensures.stopped, tt)
+
+pub take_settled-requires-clause-waits : goal.take_settled-requires-clause-waits
+take_settled-requires-clause-waits g c =
+    let told = c.in-Ok.ensures.told in
+    waits_more g.H.SettlingHandler.answers c.args.handler.now c.answer.new.self _ c.args.out.now.items told.0 _ told.1 told.2 c.requires.waits

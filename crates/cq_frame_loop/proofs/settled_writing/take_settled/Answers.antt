@@ -1,5 +1,7 @@
 -- All was settled and written.
+use Rattle.std.proofs.Common.{sym}
 use Rattle.cq_frame_loop.proofs.Settled.{all_settled, on_rests, stops_same}
+use Rattle.cq_frame_loop.proofs.Waiting.{waits_same}
 use Rattle.cq_frame_loop.proofs.settled_writing.take_settled.Goals as goal
 
 pub returns-clause-rested : goal.returns-clause-rested
@@ -10,3 +12,6 @@ returns-clause-writes g c = all_settled c.settle_and_write.result _ _ _ _ c.sett
 
 pub returns-clause-stops : goal.returns-clause-stops
 returns-clause-stops g c = stops_same g.H.SettlingHandler.rests g.H.SettlingHandler.stops g.H.SettlingHandler.is_settled c.settle_and_write.result c.args.handler.now c.settle_and_write.new.handler _ _ _ _ _ c.append_end-is_kept.ensures.same c.settle_and_write.ensures.stops
+
+pub settle_and_write-requires-clause-waits : goal.settle_and_write-requires-clause-waits
+settle_and_write-requires-clause-waits g c = waits_same g.H.SettlingHandler.answers c.args.handler.now _ _ (sym c.append_end-is_kept.ensures.same) c.requires.waits

@@ -1,5 +1,5 @@
 use Rattle.std.proofs.Common.{◌≡◌, inl, ◌-◌, ◌++◌, ◌∙◌, ℕ, List, [], length, refl, sym, ap, subst, arith}
-use Rattle.std.specs.Prelude.{Some, map}
+use Rattle.std.specs.Prelude.{IsTrue, Some, map}
 use Rattle.cq_disk.specs.Device.{Only}
 use Rattle.cq_disk.specs.Region.{part, Beside}
 use Rattle.cq_records.specs.Batch.{batch_bytes}
@@ -123,3 +123,10 @@ returns-clause-sound g c =
       first = sym (ap (λ (l : List ℕ). all_sound (frames l)) at) ∙ c.in_ok-commit.ensures.settled.bytes.sound;
       second = ap all_sound other_none;
     }
+
+pub returns-clause-honest : goal.returns-clause-honest
+returns-clause-honest g c = λ honest.
+    let d = g.D.Device in
+    let log_honest : IsTrue (d.is_honest c.new-log.result.device.device) = subst IsTrue c.commit.ensures.honest honest in
+    let second : IsTrue (d.is_honest c.blank-2.new.device.device) = subst (λ r. IsTrue (d.is_honest r.device)) c.new-log.ensures.device log_honest in
+    subst IsTrue c.sync.ensures.honest (c.blank.ensures.honest (c.blank-2.ensures.honest second))

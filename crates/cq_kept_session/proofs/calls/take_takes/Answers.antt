@@ -20,7 +20,7 @@ returns-clause-takes g c =
     let old = c.args.session.now in
     let new = c.take.new.self in
     let chunk = as_kept c.args.chunk.now in
-    let contents = g.W.Write.contents in
+    let contents = g.W.KeptSink.taken in
     if_ok (λ r. IsTrue (g.D.Device.is_honest (session_device new)) → (bytes : List ℕ) → StandsFor old bytes → (output : List ℕ) × Appends (contents c.args.writer.now) (contents c.take.new.writer) output
     × IsPrefix (told_text old bytes ++ output) (told_text new (bytes ++ chunk)) × OnOk r (told_text new (bytes ++ chunk) ≡ told_text old bytes ++ output))
     c.take.result e.stands e.told

@@ -4,14 +4,14 @@ use std::io;
 use std::sync::Arc;
 use std::time::Duration;
 
-use hobbychair_bytes::parts::{Frames, FRAME_LIMIT};
+use hobbychair_bytes::parts::{Frames, FRAME_LIMIT_BYTES};
 use tokio::io::{AsyncRead, AsyncWrite};
 use tokio::sync::mpsc::{unbounded_channel, UnboundedReceiver};
 use tokio::time::{sleep, timeout};
 
 use super::super::connections::{next_connection, other, read};
 use super::super::{Event, Shared};
-use super::{Happening, Heard, CLIENTS};
+use super::{Happening, PeerEvent, CLIENTS};
 use crate::records::Registration;
 use crate::transport;
 use crate::wire::Frame;
@@ -41,13 +41,13 @@ pub async fn listen(server: u32, node: Arc<Shared>) {
                 tracing::info!(server, %error, "answers of a server aren't heard");
             }
             said = why;
-            tell(&node, server, connection, Heard::Ended);
+            tell(&node, server, connection, PeerEvent::Ended);
         }
         sleep(PAUSE).await;
     }
 }
 
-fn tell(node: &Shared, server: u32, connection: u64, heard: Heard) {
+fn tell(node: &Shared, server: u32, connection: u64, heard: PeerEvent) {
     node.tell(Event::Gateway(Happening::Heard { server, connection, heard }));
 }
 
@@ -61,7 +61,7 @@ async fn hear(server: u32, connection: u64, registration: &Registration, node: &
         timeout(CONNECTING, transport::write(&mut writing, &greeting.bytes())).await??;
         is_heard = true;
         let (asks, asked) = unbounded_channel();
-        tell(node, server, connection, Heard::Begins(asks));
+        tell(node, server, connection, PeerEvent::Begins(asks));
         tokio::select! {
             ended = read_all(reading, server, connection, node) => ended,
             ended = write_all(writing, asked) => ended,
@@ -72,7 +72,7 @@ async fn hear(server: u32, connection: u64, registration: &Registration, node: &
 }
 
 async fn read_all(from: impl AsyncRead + Unpin, server: u32, connection: u64, node: &Shared) -> io::Result<()> {
-    let mut frames = Frames::new(from, FRAME_LIMIT);
+    let mut frames = Frames::new(from, FRAME_LIMIT_BYTES);
     loop {
         let frame = read(timeout(QUIET, frames.next()).await??)?;
         match &frame {
@@ -81,7 +81,7 @@ async fn read_all(from: impl AsyncRead + Unpin, server: u32, connection: u64, no
             Frame::Away { why } => return Err(other(why)),
             _ => return Err(other("a frame came that isn't for a client")),
         }
-        tell(node, server, connection, Heard::Frame(frame));
+        tell(node, server, connection, PeerEvent::Frame(frame));
     }
 }
 

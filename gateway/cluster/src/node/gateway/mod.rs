@@ -54,7 +54,7 @@ const SETTLED: Duration = Duration::from_secs(2);
 
 /// How a gateway is started.
 #[derive(Clone, Debug, PartialEq, Eq)]
-pub struct Settings {
+pub struct GatewaySettings {
     /// Where it listens, and where fronts find it.
     pub place: Place,
     /// Its file of options.
@@ -75,11 +75,11 @@ pub enum Happening {
     /// Its process is gone, or there was none, for that reason.
     Gone { life: Option<u64>, why: String },
     /// Something comes of another server, over the connection with that number.
-    Heard { server: u32, connection: u64, heard: Heard },
+    Heard { server: u32, connection: u64, heard: PeerEvent },
 }
 
 /// What comes of another server.
-pub enum Heard {
+pub enum PeerEvent {
     /// There is a connection to its node, by which it can be asked.
     Begins(UnboundedSender<Frame>),
     Frame(Frame),
@@ -88,7 +88,7 @@ pub enum Heard {
 
 /// So many bytes of the store may wait for a gateway before the next chunk is asked for: while it reads some, the server
 /// writes more.
-const MOST_CHUNKS: usize = 16 << 20;
+const MOST_CHUNK_BYTES: usize = 16 << 20;
 
 /// Whether a gateway is kept, or started again and again.
 #[derive(Clone, Copy, Default, PartialEq, Eq)]
@@ -134,7 +134,7 @@ struct Life {
 
 /// What a beat says of a gateway.
 #[derive(Clone, Debug, Default, PartialEq, Eq)]
-pub struct Said {
+pub struct GatewayBeat {
     /// Nothing where it isn't kept for good.
     pub phase: Option<GatewayPhase>,
     pub failing: Option<Failing>,
@@ -151,7 +151,7 @@ impl Life {
 
 /// How far the server is with a copy of its store, and for which life that is.
 #[derive(Clone, Copy, Debug, Default, PartialEq, Eq)]
-enum Copying {
+enum GatewayCopying {
     #[default]
     No,
     /// Its next chunk is asked for.
@@ -187,7 +187,7 @@ pub struct Beside {
     failing: Option<Failing>,
     /// Raised by all by which a gateway gets further in taking up the store, or another copy ends that it waits for.
     moves: u64,
-    copy: Copying,
+    copy: GatewayCopying,
     /// The server wasn't the head when the copy was begun.
     is_copy_ahead: bool,
     listening: BTreeMap<u32, JoinHandle<()>>,
@@ -263,13 +263,17 @@ impl Beside {
     }
 
     /// What a beat says of the gateway.
-    pub fn said(&self) -> Said {
+    pub fn said(&self) -> GatewayBeat {
         let is_kept = self.kept == Kept::ForGood;
         let life = self.life.as_ref();
         let phase =
             if life.is_some_and(|life| life.serves.is_some()) { GatewayPhase::Acts } else { GatewayPhase::Begins };
         let reads = life.filter(|life| is_kept && !life.asked && life.serves.is_none());
-        Said { phase: is_kept.then_some(phase), failing: self.failing.clone(), reading: reads.map(|_| self.moves) }
+        GatewayBeat {
+            phase: is_kept.then_some(phase),
+            failing: self.failing.clone(),
+            reading: reads.map(|_| self.moves),
+        }
     }
 
     /// Whether there is a process of a gateway, or will be soon.
@@ -389,8 +393,8 @@ impl Beside {
 
     /// Some time has passed, and it is this one now.
     pub fn tick(&mut self, time: &FromNode, streams: &mut Streams) {
-        if self.copy == Copying::Later {
-            self.copy = Copying::No;
+        if self.copy == GatewayCopying::Later {
+            self.copy = GatewayCopying::No;
         }
         let Some(life) = &mut self.life else { return };
         if life.timed.elapsed() >= TIME {
@@ -437,27 +441,27 @@ impl Beside {
     /// Whether a copy is made for a gateway, or is to be made.
     pub fn needs_copies(&self) -> bool {
         let is_wanted = self.life.as_ref().is_some_and(|life| life.store == Store::None);
-        is_wanted || matches!(self.copy, Copying::Asked(_) | Copying::Begun(_))
+        is_wanted || matches!(self.copy, GatewayCopying::Asked(_) | GatewayCopying::Begun(_))
     }
 
     /// Whether the server, which stands there, is to be asked for the next chunk of a copy. If so it counts as asked for.
     pub fn next_save(&mut self, standing: &Standing) -> bool {
         let life = self.life.as_ref();
         let asked = match self.copy {
-            Copying::No => life.filter(|life| life.store == Store::None).map(|life| life.number),
+            GatewayCopying::No => life.filter(|life| life.store == Store::None).map(|life| life.number),
             // A copy whose gateway is gone is asked for to its end all the same.
-            Copying::Begun(of) => {
-                let has_room = |life: &Life| life.outlet.waiting() < MOST_CHUNKS;
+            GatewayCopying::Begun(of) => {
+                let has_room = |life: &Life| life.outlet.waiting() < MOST_CHUNK_BYTES;
                 let is_ready = life.map_or(true, |life| life.number != of || has_room(life));
                 is_ready.then_some(of)
             }
-            Copying::Asked(_) | Copying::Later => None,
+            GatewayCopying::Asked(_) | GatewayCopying::Later => None,
         };
         if let Some(life) = asked {
-            if self.copy == Copying::No {
+            if self.copy == GatewayCopying::No {
                 self.is_copy_ahead = !standing.is_head;
             }
-            self.copy = Copying::Asked(life);
+            self.copy = GatewayCopying::Asked(life);
         }
         asked.is_some()
     }
@@ -465,9 +469,9 @@ impl Beside {
     /// A chunk comes of the node's own server, of a copy of so many entries. An empty one is the end of the copy.
     pub fn saved(&mut self, count: u64, chunk: Bytes, standing: &Standing, streams: &mut Streams) {
         self.moves += 1;
-        let Copying::Asked(of) = self.copy else { return };
+        let GatewayCopying::Asked(of) = self.copy else { return };
         let is_last = chunk.is_empty();
-        self.copy = if is_last { Copying::No } else { Copying::Begun(of) };
+        self.copy = if is_last { GatewayCopying::No } else { GatewayCopying::Begun(of) };
         let ahead = self.is_copy_ahead.then_some(count);
         let Some(life) = self.life.as_mut().filter(|life| life.number == of) else { return };
         life.ahead = ahead;
@@ -506,8 +510,8 @@ impl Beside {
 
     /// The server refused a chunk, and the copy is gone.
     pub fn not_saved(&mut self, code: u32, streams: &mut Streams) {
-        let Copying::Asked(of) = self.copy else { return };
-        self.copy = Copying::Later;
+        let GatewayCopying::Asked(of) = self.copy else { return };
+        self.copy = GatewayCopying::Later;
         let has_some = self.life.as_ref().is_some_and(|life| life.number == of && life.store == Store::Some);
         if has_some {
             self.give_up(&format!("the copy of the store that it was told is gone, by {code}"), streams);
@@ -517,8 +521,8 @@ impl Beside {
     // ---- servers
 
     /// Another server's node tells something, or a connection to it begins or ends.
-    fn heard(&mut self, server: u32, connection: u64, heard: Heard) {
-        if let Heard::Begins(asks) = heard {
+    fn heard(&mut self, server: u32, connection: u64, heard: PeerEvent) {
+        if let PeerEvent::Begins(asks) = heard {
             self.lose(server);
             // It may have been given up by now.
             if self.listening.contains_key(&server) {
@@ -528,14 +532,14 @@ impl Beside {
         }
         let Some(ear) = self.ears.get_mut(&server).filter(|ear| ear.connection == connection) else { return };
         match heard {
-            Heard::Frame(Frame::Standing { is_acting, .. }) => {
+            PeerEvent::Frame(Frame::Standing { is_acting, .. }) => {
                 let acted = std::mem::replace(&mut ear.acts, is_acting);
                 self.stands(server, acted, is_acting);
             }
-            Heard::Frame(Frame::Answer { message }) => self.tell(&FromNode::Answer { message }),
-            Heard::Ended => self.lose(server),
+            PeerEvent::Frame(Frame::Answer { message }) => self.tell(&FromNode::Answer { message }),
+            PeerEvent::Ended => self.lose(server),
             // A query that is refused is lost.
-            Heard::Begins(_) | Heard::Frame(_) => {}
+            PeerEvent::Begins(_) | PeerEvent::Frame(_) => {}
         }
     }
 

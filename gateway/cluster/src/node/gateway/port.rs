@@ -17,7 +17,7 @@ use tokio::net::{TcpListener, TcpSocket};
 use tokio::sync::watch;
 use tokio::time::sleep;
 
-use super::Settings;
+use super::GatewaySettings;
 
 /// How many connections may wait to be accepted.
 const BACKLOG: u32 = 4096;
@@ -27,7 +27,7 @@ const REST: Duration = Duration::from_millis(100);
 
 /// How a gateway is started, and the socket that listens for it.
 pub struct Port {
-    pub settings: Settings,
+    pub settings: GatewaySettings,
     listener: std::net::TcpListener,
     /// Whether a gateway takes connections there.
     is_taken: watch::Sender<bool>,
@@ -35,7 +35,7 @@ pub struct Port {
 
 impl Port {
     /// Takes the address. An error says which it is.
-    pub fn keep(settings: Settings) -> Result<Arc<Port>> {
+    pub fn keep(settings: GatewaySettings) -> Result<Arc<Port>> {
         let at = settings.place.listen;
         let listener = listen(at).with_context(|| format!("can't listen on {at} for the gateway"))?;
         let (is_taken, _) = watch::channel(false);
@@ -104,7 +104,7 @@ mod tests {
 
     fn keep(listen: &str) -> Result<Arc<Port>> {
         let place = Place { listen: listen.parse().unwrap(), advertise: None };
-        Port::keep(Settings { place, config: None })
+        Port::keep(GatewaySettings { place, config: None })
     }
 
     /// How a connection ends to which nobody says anything; nothing if it goes on.

@@ -13,7 +13,7 @@ use std::time::{Duration, Instant};
 use std::{io, thread};
 
 use bytes::Bytes;
-use hobbychair_bytes::parts::{Frames, FRAME_LIMIT};
+use hobbychair_bytes::parts::{Frames, FRAME_LIMIT_BYTES};
 use hobbychair_bytes::pipe::{FromGateway, FromNode};
 use hobbychair_bytes::processes::end_with_this_process;
 use tokio::io::{AsyncRead, AsyncWrite};
@@ -26,14 +26,14 @@ use tokio::time::{sleep, timeout};
 use super::super::connections::{next_connection, other, write_some, Outlet};
 use super::super::{Event, Shared};
 use super::port::Port;
-use super::{Happening, Settings, CLIENTS};
+use super::{GatewaySettings, Happening, CLIENTS};
 use crate::child::said;
 use crate::identity::Pems;
 use crate::records::Cluster;
 use crate::wire::Frame;
 
 /// So many bytes may wait for a gateway. It has few open requests, and answers to these may be large.
-const MOST_WAITING: usize = 256 << 20;
+const MOST_WAITING_BYTES: usize = 256 << 20;
 
 /// The second pause between two gateways that ended early; each further one is twice as long. There is no first one.
 const SHORTEST_PAUSE: Duration = Duration::from_millis(100);
@@ -91,14 +91,14 @@ async fn live(node: &Shared, port: &Port) -> (Option<u64>, String) {
 // ---- the process
 
 /// A process that is ended when this is dropped.
-struct Process {
+struct GatewayProcess {
     id: u32,
     /// Nothing is sent by this: it is closed.
     wanted: mpsc::Sender<()>,
     ended: oneshot::Receiver<String>,
 }
 
-impl Process {
+impl GatewayProcess {
     /// Ends it, if it hasn't ended already, and says how it did.
     async fn end(self) -> String {
         drop(self.wanted);
@@ -136,7 +136,7 @@ fn command(cluster: &Cluster, port: &Port) -> io::Result<(Command, Socket, Vec<O
 
 /// The command without its standard input, and files that it is given.
 fn program(cluster: &Cluster, port: &Port) -> io::Result<(Command, Vec<OwnedFd>)> {
-    let Settings { place, config } = &port.settings;
+    let GatewaySettings { place, config } = &port.settings;
     let listen = place.listen;
     let mut command = Command::new(this_program());
     command.args(["serve", "--beside-node", "--host", &listen.ip().to_string()]);
@@ -145,14 +145,12 @@ fn program(cluster: &Cluster, port: &Port) -> io::Result<(Command, Vec<OwnedFd>)
     command.arg("--listener").arg(socket.as_raw_fd().to_string());
     let mut files = vec![socket];
     if let Some(identity) = &cluster.identity {
-        command.args(["--cluster", &cluster.name]);
+        command.args(["--fronts-of", &cluster.name]);
         files.extend(give_identity(&mut command, &identity.pems)?);
     }
     if let Some(config) = config {
         command.arg("--config").arg(config);
     }
-    // A node may be told by these where fronts find its cluster. This one is no front.
-    command.env_remove("HOBBYCHAIR_CLUSTER").env_remove("HOBBYCHAIR_ETCD").env_remove("HOBBYCHAIR_AUTHORITY");
     command.process_group(0);
     end_with_this_process(&mut command);
     keep_open(&mut command, &files);
@@ -169,7 +167,7 @@ fn this_program() -> PathBuf {
 /// The gateway shows the certificate that was registered, whatever stands in the files by now: it is given what was read, in
 /// memory that this process and that one alone can open.
 fn give_identity(command: &mut Command, pems: &Pems) -> io::Result<Vec<OwnedFd>> {
-    let given = [("--certificate", &pems.certificate), ("--key", &pems.key), ("--authority", &pems.authority)];
+    let given = [("--certificate", &pems.certificate), ("--key", &pems.key), ("--fronts-authority", &pems.authority)];
     let mut files = Vec::new();
     for (option, pem) in given {
         let mut file = file_in_memory()?;
@@ -206,14 +204,14 @@ fn stays_open(number: RawFd) -> io::Result<()> {
     }
 }
 
-async fn spawn(command: Command, socket: Socket) -> io::Result<(UnixStream, Process)> {
+async fn spawn(command: Command, socket: Socket) -> io::Result<(UnixStream, GatewayProcess)> {
     let (wanted, is_wanted) = mpsc::channel();
     let (started, starting) = oneshot::channel();
     let (tell, ended) = oneshot::channel();
     let keep = move || keep_process(command, started, &is_wanted, tell);
     thread::Builder::new().name("gateway".into()).spawn(keep)?;
     let id = starting.await.map_err(|_| io::Error::from(io::ErrorKind::BrokenPipe))??;
-    Ok((UnixStream::from_std(socket)?, Process { id, wanted, ended }))
+    Ok((UnixStream::from_std(socket)?, GatewayProcess { id, wanted, ended }))
 }
 
 /// The system ends the process with the thread that started it: this one is there until nobody wants the process.
@@ -245,7 +243,7 @@ async fn converse(socket: UnixStream, life: u64, time: &FromNode, tell: &impl Fn
     let (frames, told) = unbounded_channel();
     let (wanted, is_wanted) = oneshot::channel();
     let waiting = Arc::new(AtomicUsize::new(0));
-    let outlet = Outlet::to_another(CLIENTS, frames, waiting.clone(), MOST_WAITING, as_gateway_hears);
+    let outlet = Outlet::to_another(CLIENTS, frames, waiting.clone(), MOST_WAITING_BYTES, as_gateway_hears);
     // The first time goes ahead of all else.
     outlet.send_bytes(time.bytes());
     tell(Happening::Begins { life, outlet, wanted });
@@ -275,7 +273,7 @@ pub fn as_gateway_hears(frame: &Frame) -> Option<Vec<u8>> {
 }
 
 async fn read_all(from: impl AsyncRead + Unpin, life: u64, tell: &impl Fn(Happening)) -> io::Result<()> {
-    let mut frames = Frames::new(from, FRAME_LIMIT);
+    let mut frames = Frames::new(from, FRAME_LIMIT_BYTES);
     loop {
         let told = FromGateway::read(frames.next().await?).map_err(|malformed| other(&malformed.to_string()))?;
         tell(Happening::Told { life, told });
@@ -312,7 +310,7 @@ mod tests {
     async fn a_process_that_ends_closes_its_socket_and_one_that_goes_on_is_ended() {
         let (command, socket) = shell("exit 3");
         let (socket, process) = spawn(command, socket).await.unwrap();
-        let read = Frames::new(socket, FRAME_LIMIT).next().await;
+        let read = Frames::new(socket, FRAME_LIMIT_BYTES).next().await;
         assert_eq!(read.unwrap_err().kind(), io::ErrorKind::UnexpectedEof);
         assert_eq!(process.end().await, "it ended with status 3");
         let (command, socket) = shell("exec sleep 60");
@@ -334,7 +332,7 @@ mod tests {
         let time = FromNode::Time { time: 7, since_start: 3 };
         let said = time.clone();
         let life = tokio::spawn(async move { converse(own, 5, &said, &|one| drop(tell.send(one))).await });
-        let mut frames = Frames::new(far, FRAME_LIMIT);
+        let mut frames = Frames::new(far, FRAME_LIMIT_BYTES);
         assert_eq!(read(&mut frames).await.unwrap(), time);
         let Some(Happening::Begins { life: 5, outlet, wanted }) = heard.recv().await else {
             panic!("it doesn't begin")

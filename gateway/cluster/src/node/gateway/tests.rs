@@ -98,7 +98,7 @@ fn chunks_are_asked_for_one_by_one_as_long_as_few_wait() {
     assert!(beside.next_save(&HEAD) && !beside.next_save(&HEAD));
     save(&mut beside, chunk("one"), &mut streams);
     assert!(beside.next_save(&HEAD) && !beside.next_save(&HEAD));
-    let long = Bytes::from(vec![0; MOST_CHUNKS]);
+    let long = Bytes::from(vec![0; MOST_CHUNK_BYTES]);
     save(&mut beside, long.clone(), &mut streams);
     assert!(!beside.next_save(&HEAD), "too much waits");
     assert_eq!(far.heard(), [FromNode::Chunk { chunk: chunk("one") }, FromNode::Chunk { chunk: long }]);
@@ -330,7 +330,7 @@ fn told_ahead(streams: &mut Streams) -> (Beside, Far) {
 fn one_that_was_told_ahead_may_ask_once_the_server_is_the_head() {
     let mut streams = Streams::default();
     let (mut beside, mut far) = told_ahead(&mut streams);
-    assert!(!beside.next_save(&MIDDLE) && beside.said() == Said::default());
+    assert!(!beside.next_save(&MIDDLE) && beside.said() == GatewayBeat::default());
     beside.open(&at(5, MIDDLE), &mut streams);
     assert_eq!(far.heard(), []);
     beside.open(&at(5, HEAD), &mut streams);
@@ -403,20 +403,20 @@ fn one_that_nobody_wants_any_more_doesnt_begin() {
 fn listen(beside: &mut Beside, server: u32, connection: u64) -> UnboundedReceiver<Frame> {
     beside.listening.entry(server).or_insert_with(|| tokio::spawn(pending()));
     let (asks, asked) = unbounded_channel();
-    hear(beside, server, connection, Heard::Begins(asks));
+    hear(beside, server, connection, PeerEvent::Begins(asks));
     asked
 }
 
-fn hear(beside: &mut Beside, server: u32, connection: u64, heard: Heard) {
+fn hear(beside: &mut Beside, server: u32, connection: u64, heard: PeerEvent) {
     beside.happen(Happening::Heard { server, connection, heard }, &mut Streams::default());
 }
 
 fn stand(beside: &mut Beside, server: u32, connection: u64, is_acting: bool) {
-    hear(beside, server, connection, Heard::Frame(Frame::Standing { server, is_head: false, is_acting }));
+    hear(beside, server, connection, PeerEvent::Frame(Frame::Standing { server, is_head: false, is_acting }));
 }
 
 fn answer(beside: &mut Beside, server: u32, connection: u64, text: &'static str) {
-    hear(beside, server, connection, Heard::Frame(Frame::Answer { message: chunk(text) }));
+    hear(beside, server, connection, PeerEvent::Frame(Frame::Answer { message: chunk(text) }));
 }
 
 fn answered(text: &'static str) -> FromNode {
@@ -444,7 +444,7 @@ async fn it_is_told_so_again_behind_a_broken_connection() {
     let (mut beside, mut far) = begun(&mut streams);
     let _asked = listen(&mut beside, 3, 13);
     stand(&mut beside, 3, 13, true);
-    hear(&mut beside, 3, 13, Heard::Ended);
+    hear(&mut beside, 3, 13, PeerEvent::Ended);
     let _asked = listen(&mut beside, 3, 14);
     answer(&mut beside, 3, 13, "of a connection that is no more");
     stand(&mut beside, 3, 14, true);

@@ -15,7 +15,7 @@ use crate::records::Readiness;
 const PAUSE: Duration = Duration::from_secs(5);
 
 /// So many bytes of a reason go into a beat.
-const LONGEST_REASON: usize = 200;
+const LONGEST_REASON_BYTES: usize = 200;
 
 /// Tries for good, behind the trial of the node's start. What comes of it goes into beats.
 pub async fn keep(node: Arc<Shared>, port: Arc<Port>) {
@@ -47,7 +47,7 @@ fn reason(said: &str) -> String {
 
 /// Its front that isn't too long for a beat.
 pub fn cut(text: &str) -> String {
-    match (0..=LONGEST_REASON).rev().find(|end| text.is_char_boundary(*end)) {
+    match (0..=LONGEST_REASON_BYTES).rev().find(|end| text.is_char_boundary(*end)) {
         Some(end) if end < text.len() => format!("{}..", &text[..end]),
         _ => text.into(),
     }
@@ -64,6 +64,6 @@ mod tests {
         let long = "é".repeat(150);
         assert_eq!(cut(&long), format!("{}..", "é".repeat(100)));
         assert_eq!((cut("short"), cut("").as_str()), ("short".into(), ""));
-        assert_eq!(cut(&"x".repeat(LONGEST_REASON)).len(), LONGEST_REASON);
+        assert_eq!(cut(&"x".repeat(LONGEST_REASON_BYTES)).len(), LONGEST_REASON_BYTES);
     }
 }

@@ -29,8 +29,8 @@ impl Room {
     }
 
     /// A journal of these entries, whose node knew that of the log.
-    fn add(&self, head: &Head, requests: &str, known: &Known) -> Folder {
-        let folder = Folder::of(&self.0, &head.incarnation, head.server);
+    fn add(&self, head: &Head, requests: &str, known: &Known) -> JournalFolder {
+        let folder = JournalFolder::of(&self.0, &head.incarnation, head.server);
         folder.make().unwrap();
         let (tell, told) = channel();
         let writer = Writer::begin(folder.clone(), head.clone(), 1, false, move |one| drop(tell.send(one))).unwrap();
@@ -45,7 +45,7 @@ impl Room {
     }
 
     /// The journal of a server of the first incarnation.
-    fn of(&self, server: u32, requests: &str, known: &Known) -> Folder {
+    fn of(&self, server: u32, requests: &str, known: &Known) -> JournalFolder {
         self.add(&head(FIRST, server), requests, known)
     }
 
@@ -202,7 +202,7 @@ fn a_loss_that_a_node_knew_of_behind_the_last_chain_says_that_there_was_a_later_
 #[test]
 fn a_journal_that_was_spoilt_counts_up_to_there_and_one_that_cannot_be_read_does_not() {
     let room = Room::new();
-    let folders: Vec<Folder> = (1..=3).map(|server| room.of(server, "abc", &Known::default())).collect();
+    let folders: Vec<JournalFolder> = (1..=3).map(|server| room.of(server, "abc", &Known::default())).collect();
     std::fs::write(folders[2].entries(1), b"nothing").unwrap();
     let plan = room.plan(None).unwrap();
     assert_eq!((plan.taken, plan.problems.len()), (1, 1));

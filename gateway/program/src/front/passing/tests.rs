@@ -174,7 +174,7 @@ async fn receive(does: &'static [Does], budget: usize) -> (Result<Response<Bytes
 #[tokio::test]
 async fn a_receive_is_passed_on_with_room_for_its_answer_and_refused_before_it_is_handed_anything() {
     let (answer, rooms, used) = receive(&[Does::Wants(50_000), Does::Wants(60_000), Does::Tells(40_000)], 60_000).await;
-    assert_eq!((answer.unwrap().body().len(), rooms, used), (40_000, vec![FIRST_ROOM, 50_000, 60_000], 40_000));
+    assert_eq!((answer.unwrap().body().len(), rooms, used), (40_000, vec![FIRST_ROOM_BYTES, 50_000, 60_000], 40_000));
     let refusal = |answer: Result<Response<Bytes>, SqsError>| match answer {
         Err(SqsError::ServiceUnavailable(why)) => why,
         other => panic!("{other:?}"),
@@ -182,13 +182,13 @@ async fn a_receive_is_passed_on_with_room_for_its_answer_and_refused_before_it_i
     let (answer, rooms, used) = receive(&[Does::Wants(60_001)], 60_000).await;
     assert_eq!(
         (refusal(answer).as_str(), rooms, used),
-        ("Too many requests are being served.", vec![FIRST_ROOM], FIRST_ROOM)
+        ("Too many requests are being served.", vec![FIRST_ROOM_BYTES], FIRST_ROOM_BYTES)
     );
-    let (answer, rooms, _) = receive(&[], FIRST_ROOM - 1).await;
+    let (answer, rooms, _) = receive(&[], FIRST_ROOM_BYTES - 1).await;
     assert_eq!((refusal(answer).as_str(), rooms), ("Too many requests are being served.", vec![]));
     // Escapes have made the answer longer than was reckoned with. It is told all the same, and counts.
     let (answer, rooms, used) = receive(&[Does::Wants(50_000), Does::Tells(70_000)], 60_000).await;
-    assert_eq!((answer.unwrap().body().len(), rooms, used), (70_000, vec![FIRST_ROOM, 50_000], 70_000));
+    assert_eq!((answer.unwrap().body().len(), rooms, used), (70_000, vec![FIRST_ROOM_BYTES, 50_000], 70_000));
     // A gateway that wants what it was told is there goes on without end for nobody.
     let (answer, rooms, _) = receive(&[Does::Wants(50_000), Does::Wants(50_000)], 60_000).await;
     let answer = answer.unwrap();

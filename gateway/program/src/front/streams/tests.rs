@@ -74,7 +74,7 @@ async fn accept(listener: &TcpListener) -> Gateway {
                   x-hobbychair-time: 1000\r\n\r\n";
     stream.write_all(answer.as_bytes()).await.unwrap();
     let (reading, writing) = stream.into_split();
-    Gateway { frames: Frames::new(reading, FRAME_LIMIT), writing }
+    Gateway { frames: Frames::new(reading, FRAME_LIMIT_BYTES), writing }
 }
 
 async fn open(streams: &Streams) -> (Arc<Stream>, Gateway, Acting) {
@@ -171,7 +171,7 @@ async fn who_does_not_wait_any_more_is_told_of_and_who_has_no_room_neither_waits
 async fn bodies_that_wait_for_a_gateway_that_reads_nothing_are_copied_only_as_they_are_written() {
     let streams = streams();
     let (stream, mut gateway, _) = open(&streams).await;
-    let body = Bytes::from(vec![7; calls::LONGEST_BODY]);
+    let body = Bytes::from(vec![7; calls::LONGEST_BODY_BYTES]);
     let all: Vec<_> = (0..200).map(|_| Arc::new(Asked::plain("/1/q", body.clone()))).collect();
     let ask = |asked: &Arc<Asked>| {
         let (stream, asked) = (stream.clone(), asked.clone());

@@ -23,7 +23,7 @@ use crate::errors::SqsError;
 const KEY: &str = "[[key]]\naccess_key = \"AKIDEXAMPLE\"\nsecret = \"wJalrXUtnFEMI/K7MDENG+bPxRfiCYEXAMPLEKEY\"\n";
 
 /// When botocore signed, in seconds since 1970: 20260228T235958Z.
-const SIGNED_AT: u64 = 1_772_323_198;
+const SIGNED_AT_SECONDS: u64 = 1_772_323_198;
 
 /// What `tests/golden/sign_requests.py` writes.
 const SIGNED: [&str; 2] = [
@@ -33,7 +33,7 @@ const SIGNED: [&str; 2] = [
 
 /// A request as its parts, which tests can spoil.
 #[derive(Clone, Debug, Deserialize)]
-struct Request {
+struct SpoilableRequest {
     name: String,
     method: String,
     path: String,
@@ -59,9 +59,9 @@ fn header_map<N: AsRef<str>, V: AsRef<str>>(headers: impl IntoIterator<Item = (N
     map
 }
 
-impl Request {
+impl SpoilableRequest {
     fn signable(&self) -> Signable<'_> {
-        let Request { method, path, query, headers, body, .. } = self;
+        let SpoilableRequest { method, path, query, headers, body, .. } = self;
         Signable { method, path, query, headers, body: body.as_bytes() }
     }
 
@@ -83,7 +83,7 @@ impl Request {
     }
 
     /// With a text in the header Authorization replaced.
-    fn with_authorization(&self, old: &str, new: &str) -> Request {
+    fn with_authorization(&self, old: &str, new: &str) -> SpoilableRequest {
         let mut request = self.clone();
         let text = request.headers["authorization"].to_str().unwrap().to_string();
         assert!(text.contains(old), "{text}");
@@ -92,23 +92,23 @@ impl Request {
     }
 
     /// With a text in the query string replaced.
-    fn with_query(&self, old: &str, new: &str) -> Request {
+    fn with_query(&self, old: &str, new: &str) -> SpoilableRequest {
         assert!(self.query.contains(old), "{}", self.query);
-        Request { query: self.query.replacen(old, new, 1), ..self.clone() }
+        SpoilableRequest { query: self.query.replacen(old, new, 1), ..self.clone() }
     }
 }
 
-fn all_signed() -> Vec<Request> {
+fn all_signed() -> Vec<SpoilableRequest> {
     SIGNED.iter().flat_map(|text| text.lines()).map(|line| serde_json::from_str(line).unwrap()).collect()
 }
 
 /// The first request of that name, which is of the older botocore.
-fn signed(name: &str) -> Request {
+fn signed(name: &str) -> SpoilableRequest {
     all_signed().into_iter().find(|request| request.name == name).unwrap()
 }
 
 fn signed_at() -> SystemTime {
-    SystemTime::UNIX_EPOCH + Duration::from_secs(SIGNED_AT)
+    SystemTime::UNIX_EPOCH + Duration::from_secs(SIGNED_AT_SECONDS)
 }
 
 /// A folder of this test alone, with a file in it.

@@ -10,7 +10,7 @@ use proptest::collection::vec;
 use proptest::prelude::*;
 use proptest::sample::{select, Index};
 
-use super::{all_signed, signed, signed_at, Request};
+use super::{all_signed, signed, signed_at, SpoilableRequest};
 use crate::access::file::parse;
 use crate::access::timestamp::Timestamp;
 
@@ -117,9 +117,9 @@ fn nth_header(headers: &HeaderMap, place: &Index) -> Option<HeaderName> {
     (!headers.is_empty()).then(|| headers.keys().nth(place.index(headers.keys_len())).unwrap().clone())
 }
 
-impl Request {
+impl SpoilableRequest {
     /// `others` are the requests that headers are taken from.
-    fn spoil(&mut self, spoil: &Spoil, others: &[Request]) {
+    fn spoil(&mut self, spoil: &Spoil, others: &[SpoilableRequest]) {
         match spoil {
             Spoil::Edit(Part::Method, edit) => self.method = edited(&self.method, edit),
             Spoil::Edit(Part::Path, edit) => self.path = edited(&self.path, edit),
@@ -168,7 +168,7 @@ struct Meaning {
 }
 
 /// `signed` are the names of the headers that were signed, with semicolons around them.
-fn meaning(request: &Request, signed: &str) -> Meaning {
+fn meaning(request: &SpoilableRequest, signed: &str) -> Meaning {
     let mut path = Vec::new();
     for segment in request.path.split('/').filter(|segment| !matches!(*segment, "" | ".")) {
         if segment != ".." {
@@ -206,7 +206,7 @@ fn meaning(request: &Request, signed: &str) -> Meaning {
     }
 }
 
-fn signed_names(request: &Request) -> String {
+fn signed_names(request: &SpoilableRequest) -> String {
     let text = request.headers.get("authorization").map_or("", |value| value.to_str().unwrap());
     match text.split_once("SignedHeaders=") {
         Some((_, rest)) => format!(";{};", rest.split(',').next().unwrap()),
@@ -264,7 +264,7 @@ fn any_query_string_and_path_are_refused() {
     ];
     let good = signed("presigned GET");
     check(5_000, (queries, ".{0,40}"), |(query, path)| {
-        let request = Request { query, path, ..good.clone() };
+        let request = SpoilableRequest { query, path, ..good.clone() };
         prop_assert!(request.verify().is_err());
         Ok(())
     });

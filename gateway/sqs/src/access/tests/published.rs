@@ -1,6 +1,6 @@
 //! What AWS publishes: the example of its documentation, and its test suite for signers.
 
-use super::{header_map, Request};
+use super::{header_map, SpoilableRequest};
 use crate::access::canonical::canonical_request;
 use crate::access::claim::{Claim, Scope};
 use crate::access::query::Query;
@@ -9,7 +9,14 @@ use crate::access::signature::{string_to_sign, SigningKey};
 const SECRET: &str = "wJalrXUtnFEMI/K7MDENG+bPxRfiCYEXAMPLEKEY";
 
 /// A request that was signed by the key and at the time of AWS's examples, over all its headers.
-fn request(method: &str, url: &str, headers: &[(&str, &str)], body: &str, service: &str, signature: &str) -> Request {
+fn request(
+    method: &str,
+    url: &str,
+    headers: &[(&str, &str)],
+    body: &str,
+    service: &str,
+    signature: &str,
+) -> SpoilableRequest {
     let (path, query) = url.split_once('?').unwrap_or((url, ""));
     let mut headers = header_map(headers.iter().copied());
     headers.append("x-amz-date", "20150830T123600Z".parse().unwrap());
@@ -22,16 +29,16 @@ fn request(method: &str, url: &str, headers: &[(&str, &str)], body: &str, servic
     );
     headers.insert("authorization", authorization.parse().unwrap());
     let (method, path, query, body) = (method.into(), path.into(), query.into(), body.into());
-    Request { name: url.into(), method, path, query, headers, body }
+    SpoilableRequest { name: url.into(), method, path, query, headers, body }
 }
 
-fn canonical_and_claim(request: &Request) -> (Vec<u8>, Claim) {
+fn canonical_and_claim(request: &SpoilableRequest) -> (Vec<u8>, Claim) {
     let query = Query::parse(&request.query);
     let claim = Claim::read(&request.signable(), &query).unwrap();
     (canonical_request(&request.signable(), &query, &claim).unwrap(), claim)
 }
 
-fn is_right(request: &Request) -> bool {
+fn is_right(request: &SpoilableRequest) -> bool {
     let (canonical, claim) = canonical_and_claim(request);
     let key = SigningKey::derive(&SECRET.into(), &claim.scope);
     key.is_right(&string_to_sign(&claim, &canonical), &claim.signature)

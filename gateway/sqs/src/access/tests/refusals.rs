@@ -4,11 +4,11 @@ use hobbychair_bytes::digits::hex;
 use hyper::header::{HeaderMap, HeaderValue};
 use sha2::{Digest, Sha256};
 
-use super::{keys, signed, signed_at, Request, KEY};
+use super::{keys, signed, signed_at, SpoilableRequest, KEY};
 use crate::errors::SqsError;
 
 /// The query form's code, and the status.
-fn refusal(request: &Request) -> (&'static str, u16) {
+fn refusal(request: &SpoilableRequest) -> (&'static str, u16) {
     let coded = request.verify().expect_err("this must be refused").coded();
     (coded.code, coded.status)
 }
@@ -92,7 +92,7 @@ fn query_strings_that_are_not_of_the_form() {
         assert_eq!(refusal(&request.with_query(old, new)), INCOMPLETE, "{new}");
     }
     for member in ["X-Amz-Algorithm", "X-Amz-Signature=", "X-Amz-Credential=AKIDEXAMPLE"] {
-        assert_eq!(refusal(&Request { query: member.into(), ..request.clone() }), INCOMPLETE, "{member}");
+        assert_eq!(refusal(&SpoilableRequest { query: member.into(), ..request.clone() }), INCOMPLETE, "{member}");
     }
 }
 

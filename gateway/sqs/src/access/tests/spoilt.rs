@@ -1,6 +1,6 @@
 //! Good requests with one element spoilt.
 
-use super::{all_signed, Request};
+use super::{all_signed, SpoilableRequest};
 use crate::errors::SqsError;
 
 /// Each text that differs from `text` in one byte of ASCII.
@@ -12,7 +12,7 @@ fn spoilt(text: &str) -> impl Iterator<Item = String> + '_ {
     })
 }
 
-fn assert_refused(request: &Request, what: &str) {
+fn assert_refused(request: &SpoilableRequest, what: &str) {
     assert!(request.verify().is_err(), "{} was let in with another {what}", request.name);
 }
 
@@ -21,7 +21,7 @@ fn any_byte_of_a_body() {
     for request in all_signed().iter().filter(|request| request.name != "POST without its payload") {
         let added = [format!("{} ", request.body), format!("x{}", request.body)];
         for body in spoilt(&request.body).chain(added) {
-            let error = Request { body, ..request.clone() }.verify().unwrap_err();
+            let error = SpoilableRequest { body, ..request.clone() }.verify().unwrap_err();
             assert!(matches!(error, SqsError::InvalidSignature(_)), "{}: {error}", request.name);
         }
     }
@@ -32,10 +32,10 @@ fn any_byte_of_a_path_or_a_query_string() {
     // Of a path that is normalized some bytes don't matter.
     for request in all_signed().iter().filter(|request| request.name != "GET of a path that is normalized") {
         for path in spoilt(&request.path).chain([format!("{}/x", request.path), "/x".into()]) {
-            assert_refused(&Request { path, ..request.clone() }, "path");
+            assert_refused(&SpoilableRequest { path, ..request.clone() }, "path");
         }
         for query in spoilt(&request.query).chain([format!("{}&x", request.query), format!("x&{}", request.query)]) {
-            assert_refused(&Request { query, ..request.clone() }, "query string");
+            assert_refused(&SpoilableRequest { query, ..request.clone() }, "query string");
         }
     }
 }
@@ -72,7 +72,7 @@ fn any_byte_of_the_authorization() {
 fn another_method() {
     for request in &all_signed() {
         for method in ["GET", "POST", "PUT", "post", ""].into_iter().filter(|method| *method != request.method) {
-            assert_refused(&Request { method: method.into(), ..request.clone() }, "method");
+            assert_refused(&SpoilableRequest { method: method.into(), ..request.clone() }, "method");
         }
     }
 }

@@ -2,8 +2,8 @@
 
 use hobbychair_bytes::values::{Fault, Part, StoreReader};
 
-use super::queue::{Loaded, Queue};
-use super::{Last, Name, Store};
+use super::queue::{Loaded, StoreQueue};
+use super::{LastReply, NameRecord, Store};
 
 /// A store that isn't whole yet.
 #[derive(Default)]
@@ -41,12 +41,12 @@ impl Made {
         match part {
             Part::Start { last, .. } => self.last = last,
             Part::Client { client, number, .. } => {
-                drop(self.store.clients.insert(client, Last { number, reply: None }))
+                drop(self.store.clients.insert(client, LastReply { number, reply: None }))
             }
             Part::Name { name, creations, removed, queue } => {
                 self.name = name.into();
-                let queue = queue.as_ref().map(Queue::of);
-                self.store.names.insert(name.into(), Name { creations, removed, queue });
+                let queue = queue.as_ref().map(StoreQueue::of);
+                self.store.names.insert(name.into(), NameRecord { creations, removed, queue });
             }
             Part::Message { sequence, group, body, handings, handed, until } => {
                 let (last, message) = (self.last, Loaded { body, handings, handed, until });
@@ -63,7 +63,7 @@ impl Made {
         }
     }
 
-    fn queue(&mut self) -> Option<&mut Queue> {
+    fn queue(&mut self) -> Option<&mut StoreQueue> {
         self.store.names.get_mut(&self.name)?.queue.as_mut()
     }
 }

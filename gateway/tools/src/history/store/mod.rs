@@ -13,49 +13,51 @@ use serde_json::{Map, Value};
 
 use super::finding::{Finding, Judged, Rule};
 use super::line::{bare, Line, Members};
-use super::stored::{told, Told, NO_QUEUE, OTHER_ATTRIBUTES, REMOVED_LATELY, STALE};
+use super::stored::{told, StoredAnswer, NO_QUEUE, OTHER_ATTRIBUTES, REMOVED_LATELY, STALE};
 pub use loading::Loading;
-use queue::Queue;
+use queue::StoreQueue;
 
 /// So long the name of a removed queue isn't free, in milliseconds.
-const REMOVED: u64 = 60_000;
+const REMOVED_MILLISECONDS: u64 = 60_000;
 
 /// No more of an answer is shown, in characters.
-const MOST_SHOWN: usize = 300;
+const MOST_SHOWN_CHARACTERS: usize = 300;
 
 /// A store. At first it has nothing.
 #[derive(Default)]
 pub struct Store {
-    clients: HashMap<u32, Last>,
-    names: HashMap<String, Name>,
+    clients: HashMap<u32, LastReply>,
+    names: HashMap<String, NameRecord>,
 }
 
 /// The largest number of a client, and the reply to it. None: that isn't known.
-struct Last {
+struct LastReply {
     number: u64,
-    reply: Option<Reply>,
+    reply: Option<KeptReply>,
 }
 
 #[derive(Clone)]
-struct Reply {
+struct KeptReply {
     reply: StoreReply,
     /// Of the queue to which a message was sent, or 0.
     incarnation: u64,
 }
 
 #[derive(Default)]
-struct Name {
+struct NameRecord {
     /// How many took effect.
     creations: u64,
     removed: Option<u64>,
-    queue: Option<Queue>,
+    queue: Option<StoreQueue>,
 }
 
 impl Store {
     /// What the rules say of the answer in a line, which is to this request. Behind one that they don't allow this is of no use any
     /// more.
     pub fn judge(&mut self, line: &Line, request: &StoreRequest) -> Result<Judged, Finding> {
-        let Some((Reply { reply, incarnation }, rule)) = self.reply(request, line.at) else { return Ok(Judged::Not) };
+        let Some((KeptReply { reply, incarnation }, rule)) = self.reply(request, line.at) else {
+            return Ok(Judged::Not);
+        };
         // It replies to requests alone, with receipts of its own.
         let wanted = told(request, incarnation, &reply).unwrap_or_else(|| Ok(Map::new()));
         let told = line.told().cloned();
@@ -67,30 +69,30 @@ impl Store {
     }
 
     /// The reply to a request at this moment, and the rule that says so. None: it repeats one whose reply isn't known.
-    fn reply(&mut self, request: &StoreRequest, now: u64) -> Option<(Reply, Rule)> {
+    fn reply(&mut self, request: &StoreRequest, now: u64) -> Option<(KeptReply, Rule)> {
         match self.clients.get(&request.client) {
             Some(last) if last.number == request.number => Some((last.reply.clone()?, Rule::Repeats)),
             Some(last) if last.number > request.number => {
-                Some((Reply { reply: StoreReply::Refused(STALE), incarnation: 0 }, Rule::Repeats))
+                Some((KeptReply { reply: StoreReply::Refused(STALE), incarnation: 0 }, Rule::Repeats))
             }
             _ => {
                 let (reply, rule) = self.effect(request, now);
-                self.clients.insert(request.client, Last { number: request.number, reply: Some(reply.clone()) });
+                self.clients.insert(request.client, LastReply { number: request.number, reply: Some(reply.clone()) });
                 Some((reply, rule))
             }
         }
     }
 
     /// What a fresh request does and is answered.
-    fn effect(&mut self, request: &StoreRequest, now: u64) -> (Reply, Rule) {
+    fn effect(&mut self, request: &StoreRequest, now: u64) -> (KeptReply, Rule) {
         let name = self.names.entry(request.queue.clone()).or_default();
         let incarnation = name.queue.as_ref().map_or(0, |queue| queue.incarnation);
         let (reply, rule) = name.effect(&request.ask, now);
-        (Reply { reply, incarnation }, rule)
+        (KeptReply { reply, incarnation }, rule)
     }
 }
 
-impl Name {
+impl NameRecord {
     fn effect(&mut self, ask: &StoreAsk, now: u64) -> (StoreReply, Rule) {
         match (ask, &mut self.queue) {
             (StoreAsk::Create { timeout, makes_ids }, _) => (self.create(*timeout, *makes_ids, now), Rule::Create),
@@ -114,12 +116,12 @@ impl Name {
         match &self.queue {
             Some(queue) if queue.has(timeout, makes_ids) => StoreReply::Created(queue.incarnation),
             Some(_) => StoreReply::Refused(OTHER_ATTRIBUTES),
-            None if self.removed.is_some_and(|removed| now < removed.saturating_add(REMOVED)) => {
+            None if self.removed.is_some_and(|removed| now < removed.saturating_add(REMOVED_MILLISECONDS)) => {
                 StoreReply::Refused(REMOVED_LATELY)
             }
             None => {
                 self.creations += 1;
-                self.queue = Some(Queue::new(self.creations, timeout, makes_ids));
+                self.queue = Some(StoreQueue::new(self.creations, timeout, makes_ids));
                 StoreReply::Created(self.creations)
             }
         }
@@ -127,7 +129,7 @@ impl Name {
 }
 
 /// Words for the first thing in which an answer is another one than it has to be.
-fn difference(told: &Told, wanted: &Told) -> (String, String) {
+fn difference(told: &StoredAnswer, wanted: &StoredAnswer) -> (String, String) {
     match (told, wanted) {
         (Ok(told), Ok(wanted)) => of_members(told, wanted),
         (told, wanted) => {
@@ -161,7 +163,7 @@ fn member(name: &str, value: Option<&Value>) -> String {
 
 /// The front of a text.
 fn cut(text: &str) -> String {
-    let front: String = text.chars().take(MOST_SHOWN).collect();
+    let front: String = text.chars().take(MOST_SHOWN_CHARACTERS).collect();
     let more = if front.len() < text.len() { ".." } else { "" };
     format!("{front}{more}")
 }

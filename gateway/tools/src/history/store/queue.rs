@@ -10,20 +10,20 @@ use hobbychair_sqs::texts::DedupId;
 use crate::history::stored::{BAD_RECEIPT, BEYOND_LIMIT, NOT_IN_FLIGHT, NO_ID};
 
 /// A send with the id of an earlier one adds nothing for so long, in milliseconds.
-const REMEMBERED: u64 = 300_000;
+const REMEMBERED_MILLISECONDS: u64 = 300_000;
 
 /// From its last handing on a message is hidden for at most so long, in milliseconds.
-const LONGEST_HIDDEN: u64 = 43_200_000;
+const LONGEST_HIDDEN_MILLISECONDS: u64 = 43_200_000;
 
 /// A queue that lives.
-pub struct Queue {
+pub struct StoreQueue {
     pub incarnation: u64,
     timeout: u32,
     makes_ids: bool,
     /// How many sends were accepted.
     sent: u64,
     /// Those that aren't deleted, by their sequence numbers.
-    messages: HashMap<u64, Message>,
+    messages: HashMap<u64, StoreMessage>,
     groups: HashMap<Rc<str>, Group>,
     /// Groups of which nothing was in flight when they were looked at last, by their oldest message.
     open: BTreeMap<u64, Rc<str>>,
@@ -35,7 +35,7 @@ pub struct Queue {
     ids: VecDeque<Rc<str>>,
 }
 
-struct Message {
+struct StoreMessage {
     group: Rc<str>,
     body: Arc<str>,
     /// How often it was handed out, when last, and until when it is hidden.
@@ -61,9 +61,9 @@ struct Group {
     until: u64,
 }
 
-impl Queue {
-    pub fn new(incarnation: u64, timeout: u32, makes_ids: bool) -> Queue {
-        Queue {
+impl StoreQueue {
+    pub fn new(incarnation: u64, timeout: u32, makes_ids: bool) -> StoreQueue {
+        StoreQueue {
             incarnation,
             timeout,
             makes_ids,
@@ -78,14 +78,14 @@ impl Queue {
     }
 
     /// One that is loaded: its messages and accepted sends follow.
-    pub fn of(part: &QueuePart) -> Queue {
-        Queue { sent: part.sent, ..Queue::new(part.incarnation, part.timeout, part.makes_ids) }
+    pub fn of(part: &QueuePart) -> StoreQueue {
+        StoreQueue { sent: part.sent, ..StoreQueue::new(part.incarnation, part.timeout, part.makes_ids) }
     }
 
     /// Takes up a message behind those that it has, at this moment.
     pub fn load(&mut self, sequence: u64, group: &str, message: Loaded<'_>, now: u64) {
         let Loaded { body, handings, handed, until } = message;
-        self.add(sequence, group, |group| Message { group, body: body.into(), handings, handed, until }, now);
+        self.add(sequence, group, |group| StoreMessage { group, body: body.into(), handings, handed, until }, now);
     }
 
     /// Remembers the id of a send that was accepted at this moment.
@@ -94,7 +94,7 @@ impl Queue {
         self.ids.push_back(id);
     }
 
-    fn add(&mut self, sequence: u64, group: &str, message: impl FnOnce(Rc<str>) -> Message, now: u64) {
+    fn add(&mut self, sequence: u64, group: &str, message: impl FnOnce(Rc<str>) -> StoreMessage, now: u64) {
         let group: Rc<str> = self.groups.get_key_value(group).map_or_else(|| group.into(), |(known, _)| known.clone());
         self.groups.entry(group.clone()).or_default().messages.push_back(sequence);
         self.messages.insert(sequence, message(group.clone()));
@@ -117,14 +117,14 @@ impl Queue {
         }
         self.sent += 1;
         self.accept(id, now, self.sent);
-        let message = |group| Message { group, body: body.into(), handings: 0, handed: 0, until: 0 };
+        let message = |group| StoreMessage { group, body: body.into(), handings: 0, handed: 0, until: 0 };
         self.add(self.sent, group, message, now);
         StoreReply::Sent(self.sent)
     }
 
     fn forget_ids(&mut self, now: u64) {
         while let Some(id) = self.ids.front() {
-            if self.accepted.get(id).is_some_and(|(at, _)| now.saturating_sub(*at) < REMEMBERED) {
+            if self.accepted.get(id).is_some_and(|(at, _)| now.saturating_sub(*at) < REMEMBERED_MILLISECONDS) {
                 return;
             }
             self.accepted.remove(id);
@@ -195,7 +195,7 @@ impl Queue {
         if now >= message.until {
             return StoreReply::Refused(NOT_IN_FLIGHT);
         }
-        if until > message.handed.saturating_add(LONGEST_HIDDEN) {
+        if until > message.handed.saturating_add(LONGEST_HIDDEN_MILLISECONDS) {
             return StoreReply::Refused(BEYOND_LIMIT);
         }
         message.until = until;

@@ -7,7 +7,7 @@ use hobbychair_tables::store_name::StoreName;
 use proptest::prelude::*;
 use serde_json::{json, Value};
 
-use super::super::{check, Told};
+use super::super::{check, Verdict};
 use super::*;
 use crate::history::stored::{line_of_chunk, line_of_request, request_of};
 
@@ -100,7 +100,7 @@ impl History {
         self
     }
 
-    fn told(&self) -> (Told, String) {
+    fn told(&self) -> (Verdict, String) {
         let text: String = self.lines.iter().map(|line| format!("{line}\n")).collect();
         let mut out = Vec::new();
         let told = check(text.as_bytes(), &mut out).unwrap();
@@ -333,7 +333,7 @@ fn replies_are_those_of_another_store_by_the_rules_also_where_one_begins_with_it
                 prop_assert!(store.reply(&repeat, now).is_none(), "what it was answered isn't known");
             }
             let expected = other.reply(&request.ask.written(&request.queue), now);
-            let (Reply { reply, .. }, _) = store.reply(&request, now).unwrap();
+            let (KeptReply { reply, .. }, _) = store.reply(&request, now).unwrap();
             prop_assert_eq!(&reply, &expected, "{:?} at {}", request, now);
             let line = line_of_request(&request, 1, now, told(&request, 1, &reply).unwrap());
             prop_assert_eq!(request_of(&line, line.store.unwrap()), Ok(request));

@@ -21,7 +21,7 @@ returns-in_default-clause-any_moment g c = λ honest.
 
 pub returns-clause-base : goal.returns-clause-base
 returns-clause-base g c =
-    let free = c.in-Some.ensures in
+    let free = c.in-Some.ensures.free in
     let b = c.in_ok-clear_outside.ensures in
     base_made c.in-Some.place c.args.self.now c.clear_outside.new.self b.changes (record { closed = c.new.result; growing = c.in-Some.place; end = 0 }) [] c.new.ensures.items refl
     (free.behind, tt) (free.within, tt) (free.small, tt) (free.apart, tt) tt (omega arith) tt tt (blank_log c.args.self.now.len _ b.zeros)

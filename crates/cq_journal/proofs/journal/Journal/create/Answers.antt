@@ -82,3 +82,6 @@ returns-clause-intact g c =
         grown = log_any c.torn_writes-torn.result _ 0 (blank_log n (part p n bytes) b.zeros);
       },
     )
+
+pub returns-clause-honest : goal.returns-clause-honest
+returns-clause-honest g c = λ honest. c.in_ok-root.ensures.honest (c.blank_at.ensures.honest honest)

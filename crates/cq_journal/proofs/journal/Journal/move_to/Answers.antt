@@ -1,6 +1,8 @@
 -- The root names the copy in place of the region that grew.
 use Rattle.std.proofs.Common.{◌≡◌, ℕ, ◌+◌, ◌<◌, ◌≤◌, List, [], ◌∷◌, ◌++◌, length, drop, sym, ◌∙◌, ap, subst, arith, length-drop, length-append}
-use Rattle.std.specs.Prelude.{Some}
+use Rattle.std.proofs.Common.{rules}
+use Rattle.std.specs.Prelude.{IsErrOf, Some}
+use Rattle.cq_records.specs.declared.fault.LogFault.TheVariants.{Full}
 use Rattle.cq_disk.specs.Device.{LeavesOnly}
 use Rattle.cq_disk.specs.Region.{part}
 use Rattle.cq_disk.proofs.Moments.{weakened, runs_on, started}
@@ -14,6 +16,7 @@ use Rattle.cq_journal.proofs.Regions.{kept_of, each_so, each_more, each_left, pl
 use Rattle.cq_journal.specs.Intact.{IsIntact}
 use Rattle.cq_journal.proofs.Bases.{free_outside}
 use Rattle.cq_journal.proofs.Intact.{rests_intact, intact_at, outside_leaves, with_other}
+use Rattle.cq_journal.proofs.Rooms.{names_long}
 use Rattle.cq_journal.proofs.journal.Journal.move_to.Goals as goal
 
 pub text_of-requires-clause-closed : goal.text_of-requires-clause-closed
@@ -250,3 +253,18 @@ returns-clause-stays g c = λ now i.
     (subst (λ (k : ℕ). IsOldOrNew k (d.seen mid) (numbered either.0 (regions_text c.torn_writes-torn.result (ns ++ p ∷ []))) f) c.copy_to.ensures.half
     (subst (λ (text : List ℕ). IsOldOrNew copied.root.log.device.len (d.seen mid) (numbered either.0 text) f) text_is either.2)) in
     named (d.seen fin) (c.in_ok-put_in_both.ensures.shown now)
+
+pub returns-then-not-has_room-clause-crowded : goal.returns-then-not-has_room-clause-crowded
+returns-then-not-has_room-clause-crowded g c = λ err room.
+    let j = c.args.self.now in
+    let long = ap length (c.deref-2.ensures.value ∙ c.in_ok-text.ensures ∙ ap (λ (xs : List ℕ). regions_text c.torn_writes-torn.result (xs ++ c.args.place ∷ [])) c.deref.ensures.value)
+    ∙ names_long c.torn_writes-torn.result j.closed.items j.growing c.args.place in
+    c.has_room.ensures.none c.if-not-has_room.true (room.0, omega (arith, long, room.1))
+
+pub returns-in_err-put_in_both-clause-crowded : goal.returns-in_err-put_in_both-clause-crowded
+returns-in_err-put_in_both-clause-crowded g c = λ err room.
+    let j = c.args.self.now in
+    let is : IsErrOf c.put_in_both.result Full = search rules in
+    let long = ap length (c.deref-3.ensures.value ∙ c.in_ok-text.ensures ∙ ap (λ (xs : List ℕ). regions_text c.torn_writes-torn.result (xs ++ c.args.place ∷ [])) c.deref.ensures.value)
+    ∙ names_long c.torn_writes-torn.result j.closed.items j.growing c.args.place in
+    (c.put_in_both.ensures.full is).1 (omega (arith, room.0, c.copy_to.ensures.number), omega (arith, long, room.1, c.copy_to.ensures.half))

@@ -13,6 +13,9 @@ use Rattle.cq_records.specs.declared.fault.ReadFault.TheVariants.{Damaged as Rea
 use Rattle.cq_journal.specs.declared.fault.OpenFault.TheVariants.{Damaged, NoJournal}
 use Rattle.cq_journal.specs.Intact.{IsIntact}
 use Rattle.cq_journal.proofs.Intact.{at_lengths}
+use Rattle.cq_journal.specs.Intact.{HasRoomBehind}
+use Rattle.cq_journal.specs.declared.fault.OpenFault.TheVariants.{Full}
+use Rattle.cq_journal.proofs.Rooms.{room_again, room_at_lengths}
 use Rattle.cq_journal.proofs.journal.Journal.open.Goals as goal
 
 pub returns-clause-any_moment : goal.returns-clause-any_moment
@@ -144,3 +147,29 @@ pub returns-in_err-recover-clause-nothing : goal.returns-in_err-recover-clause-n
 returns-in_err-recover-clause-nothing g c = λ err.
     let is : IsErrOf c.recover.result NoJournal = search rules in
     absurd (c.recover.ensures.nothing is)
+
+pub returns-in_err-journal-clause-full : goal.returns-in_err-journal-clause-full
+returns-in_err-journal-clause-full g c = λ err.
+    let is : IsErrOf c.at.result Full = search rules in
+    absurd (c.at.ensures.full is)
+
+pub returns-in_err-recover-clause-full : goal.returns-in_err-recover-clause-full
+returns-in_err-recover-clause-full g c = λ err.
+    let is : IsErrOf c.recover.result Full = search rules in (
+      c.recover.new.self.root.log.device.device,
+      λ honest i.
+          let d = g.D.Device in
+          let half = c.args.half in
+          let len = c.args.len in
+          let mid = c.read_root.new.region in
+          let j = c.in_ok-journal.journal in
+          let found = c.in_ok-journal.ensures.device in
+          let device_is : j.root.log.device.device ≡ mid.device = found.0 ∙ c.at-root.ensures.device.0 in
+          let half_is : j.root.log.device.len ≡ half = found.1 ∙ c.at-root.ensures.device.1 ∙ c.in_ok-found.ensures.place.1 in
+          let len_is : j.len ≡ len = found.2 in
+          let honest_found : IsTrue (d.is_honest j.root.log.device.device) = c.recover.ensures.honest honest in
+          let honest_mid : IsTrue (d.is_honest mid.device) = subst (λ (x : g.row.D.Denot). IsTrue (d.is_honest x)) device_is honest_found in
+          let seen_is : d.seen j.root.log.device.device ≡ d.seen c.args.device = ap d.seen device_is ∙ c.read_root.ensures.seen honest_mid in
+          c.recover.ensures.crowded is (room_again j c.in_ok-journal.ensures.regions honest_found
+          (room_at_lengths half j.root.log.device.len len j.len (d.seen j.root.log.device.device) (sym half_is) (sym len_is) (subst (HasRoomBehind half len) (sym seen_is) i))),
+    )

@@ -25,3 +25,9 @@ pub returns-clause-refused : goal.returns-clause-refused
 returns-clause-refused g c = λ err honest i.
     let j = c.args.self.now in
     not_both (growing_sound j c.requires (c.move_to.ensures.honest honest) i) (c.move_to.ensures.damaged err honest)
+
+pub returns-in_default-clause-crowded : goal.returns-in_default-clause-crowded
+returns-in_default-clause-crowded g c = λ err room. c.in_default.ensures.none room.long room.step room.free
+
+pub returns-clause-crowded : goal.returns-clause-crowded
+returns-clause-crowded g c = λ err room. c.move_to.ensures.crowded err (room.number_left, room.names)

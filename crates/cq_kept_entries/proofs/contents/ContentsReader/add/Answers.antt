@@ -12,5 +12,5 @@ pub returns : goal.returns
 returns c = λ before more s count_is text_is. record {
   records_are = omega (arith, c.in_ok-records.ensures, s.records_are, count_is, length-append before more);
   bytes_are = omega (arith, c.in_ok-bytes.ensures, s.bytes_are, ap length text_is, ap length (joined_append before more), length-append (joined before) (joined more));
-  read_so = subst (λ (a : At). IsReader a c.in_ok-reader.reader) (read_more before more c.args.text.now text_is) (c.in_ok-reader.ensures (read start (joined before)) s.read_so);
+  read_so = subst (λ (a : At). IsReader a c.in_ok-reader.reader) (read_more before more c.args.text.now text_is) (c.in_ok-reader.ensures.made (read start (joined before)) s.read_so);
 }

@@ -10,5 +10,5 @@ returns c = λ all s. record {
   regions_are = refl;
   records_are = s.records_are;
   bytes_are = s.bytes_are;
-  store = store_of_all all c.in_ok-store.store (c.in_ok-store.ensures (read start (joined all)) s.read_so).1;
+  store = store_of_all all c.in_ok-store.store (c.in_ok-store.ensures.made (read start (joined all)) s.read_so).1;
 }

@@ -1,6 +1,7 @@
 -- The first piece of entries is all that is kept.
 use Rattle.std.proofs.Common.{◌≡◌, List, ℕ, [], ◌∷◌, ◌++◌, ◌∙◌, ap, sym, subst}
-use Rattle.cq_journal.specs.Journal.{IsJournal, journal_half, journal_records, region_len}
+use Rattle.std.specs.Prelude.{IsTrue}
+use Rattle.cq_journal.specs.Journal.{IsJournal, journal_device, journal_half, journal_records, region_len}
 use Rattle.cq_kept_entries.specs.Kept.{head, kept_records}
 use Rattle.cq_kept_entries.specs.Pieces.{ArePiecesOf}
 use Rattle.cq_kept_entries.proofs.Added.{kept_new, stands_new}
@@ -19,4 +20,6 @@ returns g c =
       empty = stands_new k is;
       settled = subst (λ (l : List ℕ). ArePiecesOf l []) (sym b.text) none_added;
       lengths = (ap journal_half b.journal ∙ a.lengths.0 ∙ j.half, ap region_len b.journal ∙ a.lengths.1 ∙ j.len);
+      honest = λ honest. j.honest (c.append_record.ensures.tries.honest (subst (λ it. IsTrue (g.D.Device.is_honest (journal_device it))) b.journal honest));
+      refused = tt;
     }

@@ -1,6 +1,7 @@
 -- The journal has no record, and the session has run nothing.
 use Rattle.std.proofs.Common.{◌≡◌, ◌∙◌, [], ◌++◌, sym, ap, subst}
-use Rattle.cq_journal.specs.Journal.{IsJournal, journal_half, journal_records, region_len}
+use Rattle.std.specs.Prelude.{IsTrue}
+use Rattle.cq_journal.specs.Journal.{IsJournal, journal_device, journal_half, journal_records, region_len}
 use Rattle.cq_records.specs.Frames.{joined}
 use Rattle.cq_kept_session.specs.Kept.{kept_records}
 use Rattle.cq_kept_session.specs.Texts.{size_records}
@@ -29,3 +30,6 @@ returns-clause-lengths g c =
     let j = c.in_ok-journal.ensures in
     let n = c.in_ok-name_size.ensures in
     (n.lengths.0 ∙ ap journal_half b.journal ∙ j.half, n.lengths.1 ∙ ap region_len b.journal ∙ j.len)
+
+pub returns-clause-honest : goal.returns-clause-honest
+returns-clause-honest g c = λ honest. c.in_ok-journal.ensures.honest (subst (λ j. IsTrue (g.D.Device.is_honest (journal_device j))) c.in_ok-session.ensures.journal (c.name_size.ensures.tries.honest honest))

@@ -37,7 +37,7 @@ returns-then-self-clause-told g c = λ honest bytes stands.
     let k = c.args.self.now in
     let none : missing_end k ≡ [] = end_is (kept_bytes k) true (sym (c.requires.ended honest) ∙ c.if-self.true) in
     let same : told_text k (bytes ++ missing_end k) ≡ told_text k bytes ++ [] = ap (λ (l : List ℕ). told_text k (bytes ++ l)) none ∙ ap (λ (l : List ℕ). told_text k l) (append-nil bytes) ∙ sym (append-nil (told_text k bytes)) in
-    ([], no_more (g.W.Write.contents c.args.writer.now), ([], same ∙ sym (append-nil (told_text k bytes ++ []))), same)
+    ([], no_more (g.W.KeptSink.taken c.args.writer.now), ([], same ∙ sym (append-nil (told_text k bytes ++ []))), same)
 
 pub returns-then-self-clause-tries : goal.returns-then-self-clause-tries
 returns-then-self-clause-tries g c =
@@ -56,7 +56,7 @@ pub returns-clause-told : goal.returns-clause-told
 returns-clause-told g c =
     let old = c.args.self.now in
     let new = c.take_text.new.self in
-    let contents = g.W.Write.contents in
+    let contents = g.W.KeptSink.taken in
     on_kept c.take_text.result c.take_text.ensures.told (λ told honest bytes stands.
     let one : missing_end old ≡ 10 ∷ [] = end_is (kept_bytes old) false (sym (c.requires.ended (c.take_text.ensures.tries.honest honest)) ∙ c.if-self.false) in
     subst (λ (l : List ℕ). (output : List ℕ) × Appends (contents c.args.writer.now) (contents c.take_text.new.writer) output

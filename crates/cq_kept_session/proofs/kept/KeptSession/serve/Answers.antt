@@ -16,7 +16,7 @@ next_are first second last partial chunk input one two =
 pub loop-init : goal.loop-init
 loop-init g c =
     let none = c.new-partial.ensures.items in
-    (c.requires, omega (arith, ap length none), refl, ([], Consumes-nil _, ([], none, serves_none c.args.self.now (g.W.Write.contents c.args.writer.now))))
+    (c.requires, omega (arith, ap length none), refl, ([], Consumes-nil _, ([], none, serves_none c.args.self.now (g.W.KeptSink.taken c.args.writer.now))))
 
 pub loop-preserved : goal.loop-preserved
 loop-preserved g c =
@@ -32,10 +32,10 @@ loop-preserved g c =
         Consumes-trans _ _ _ i.3.0 chunk i.3.1 c.in-Ok.ensures.bytes.0,
         let here = t.serves in
             let w = i.3.2 in
-            let both = serves_both _ _ _ _ _ _ (as_kept here.0) [] here.2 (r.serves (g.W.Write.contents c.take_chunk.new.writer)) in (
+            let both = serves_both _ _ _ _ _ _ (as_kept here.0) [] here.2 (r.serves (g.W.KeptSink.taken c.take_chunk.new.writer)) in (
               w.0 ++ here.0,
               next_are w.0 here.0 c.take_chunk.new.partial.items c.loop.partial.items chunk i.3.0 w.1 here.1,
-              subst (λ (bytes : List ℕ). Serves c.args.self.now c.rewrite_if_due.new.self (g.W.Write.contents c.args.writer.now) (g.W.Write.contents c.take_chunk.new.writer) bytes)
+              subst (λ (bytes : List ℕ). Serves c.args.self.now c.rewrite_if_due.new.self (g.W.KeptSink.taken c.args.writer.now) (g.W.KeptSink.taken c.take_chunk.new.writer) bytes)
                   (ap (λ (l : List ℕ). as_kept w.0 ++ l) (append-nil (as_kept here.0)) ∙ sym (kept_both w.0 here.0))
                   (serves_both _ _ _ _ _ _ (as_kept w.0) (as_kept here.0 ++ []) w.2 both),
             ),
@@ -57,7 +57,7 @@ returns-in-Ok-eq0-clause-serves g c =
       let here = e.2 in
           let w = i.3.2 in
           let all : w.0 ++ (partial ++ e.0) ≡ i.3.0 ++ e.0 = sym (append_assoc w.0 partial e.0) ∙ ap (λ (l : List ℕ). l ++ e.0) w.1 in
-          subst (λ (bytes : List ℕ). Serves c.args.self.now c.take_end.new.self (g.W.Write.contents c.args.writer.now) (g.W.Write.contents c.take_end.new.writer) bytes)
+          subst (λ (bytes : List ℕ). Serves c.args.self.now c.take_end.new.self (g.W.KeptSink.taken c.args.writer.now) (g.W.KeptSink.taken c.take_end.new.writer) bytes)
           (sym (kept_both w.0 (partial ++ e.0)) ∙ ap as_kept all)
           (serves_both _ _ _ _ _ _ (as_kept w.0) (as_kept (partial ++ e.0)) w.2 here),
     )
@@ -71,19 +71,19 @@ returns-then-failed-clause-stops g c =
     let i = c.loop.invariant in
     let w = i.3.2 in
     let input = Consumes-nothing _ _ _ i.3.0 c.read.new.buf _ c.in-Ok-eq0.field-0-test i.3.1 c.in-Ok-eq0.ensures.bytes.0 in
-    (i.3.0, [], input, inl refl, stops_untold c.args.self.now c.loop.self c.loop.self _ _ (as_kept w.0) (as_kept c.loop.partial.items) (as_kept (i.3.0 ++ [])) (untaken w.0 c.loop.partial.items i.3.0 w.1) w.2 (λ honest. honest))
+    (i.3.0, [], input, inl refl, stops_untold c.args.self.now c.loop.self c.loop.self _ _ (as_kept w.0) (as_kept c.loop.partial.items) (as_kept (i.3.0 ++ [])) i.0 (untaken w.0 c.loop.partial.items i.3.0 w.1) w.2 (λ honest. honest))
 
 pub returns-in-Err-clause-stops : goal.returns-in-Err-clause-stops
 returns-in-Err-clause-stops g c =
     let i = c.loop.invariant in
     let w = i.3.2 in
-    (i.3.0, [], Consumes-kept _ _ _ i.3.0 i.3.1 c.in-Err.ensures.bytes, inl refl, stops_untold c.args.self.now c.loop.self c.loop.self _ _ (as_kept w.0) (as_kept c.loop.partial.items) (as_kept (i.3.0 ++ [])) (untaken w.0 c.loop.partial.items i.3.0 w.1) w.2 (λ honest. honest))
+    (i.3.0, [], Consumes-kept _ _ _ i.3.0 i.3.1 c.in-Err.ensures.bytes, inl refl, stops_untold c.args.self.now c.loop.self c.loop.self _ _ (as_kept w.0) (as_kept c.loop.partial.items) (as_kept (i.3.0 ++ [])) i.0 (untaken w.0 c.loop.partial.items i.3.0 w.1) w.2 (λ honest. honest))
 
 pub returns-clause-stops : goal.returns-clause-stops
 returns-clause-stops g c =
     let i = c.loop.invariant in
     let w = i.3.2 in
-    (i.3.0, [], i.3.1, inl refl, stops_untold c.args.self.now c.loop.self c.loop.self _ _ (as_kept w.0) (as_kept c.loop.partial.items) (as_kept (i.3.0 ++ [])) (untaken w.0 c.loop.partial.items i.3.0 w.1) w.2 (λ honest. honest))
+    (i.3.0, [], i.3.1, inl refl, stops_untold c.args.self.now c.loop.self c.loop.self _ _ (as_kept w.0) (as_kept c.loop.partial.items) (as_kept (i.3.0 ++ [])) i.0 (untaken w.0 c.loop.partial.items i.3.0 w.1) w.2 (λ honest. honest))
 
 pub returns-in_err-take_end-in-Ok-eq0-clause-stops : goal.returns-in_err-take_end-in-Ok-eq0-clause-stops
 returns-in_err-take_end-in-Ok-eq0-clause-stops g c =
@@ -128,7 +128,7 @@ returns-in_err-rewrite_if_due-in-Ok-clause-stops g c =
       [],
       Consumes-trans _ _ _ i.3.0 chunk i.3.1 c.in-Ok.ensures.bytes.0,
       inl refl,
-      stops_untold c.args.self.now c.take_chunk.new.self c.rewrite_if_due.new.self _ _ (as_kept w.0 ++ as_kept here.0) (as_kept left) (as_kept ((i.3.0 ++ chunk) ++ []))
+      stops_untold c.args.self.now c.take_chunk.new.self c.rewrite_if_due.new.self _ _ (as_kept w.0 ++ as_kept here.0) (as_kept left) (as_kept ((i.3.0 ++ chunk) ++ [])) c.in_ok-take_chunk-in-Ok.ensures.kept
           (untaken (w.0 ++ here.0) left (i.3.0 ++ chunk) (next_are w.0 here.0 left c.loop.partial.items chunk i.3.0 w.1 here.1) ∙ ap (λ (l : List ℕ). l ++ as_kept left) (kept_both w.0 here.0))
           (serves_both _ _ _ _ _ _ (as_kept w.0) (as_kept here.0) w.2 here.2) c.rewrite_if_due.ensures.honest,
     )

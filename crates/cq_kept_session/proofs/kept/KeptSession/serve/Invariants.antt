@@ -12,4 +12,4 @@ invariant-loop g l =
     IsKept l.self × (length l.partial.items ≤ LINE_LIMIT) × (session_size l.self ≡ session_size l.initial.self)
     × ((input : List ℕ) × Consumes (g.R.Read.remaining l.initial.reader) (g.R.Read.remaining l.reader) input
     × ((done : List ℕ) × (done ++ l.partial.items ≡ input)
-    × Serves l.initial.self l.self (g.W.Write.contents l.initial.writer) (g.W.Write.contents l.writer) (as_kept done)))
+    × Serves l.initial.self l.self (g.W.KeptSink.taken l.initial.writer) (g.W.KeptSink.taken l.writer) (as_kept done)))

@@ -27,7 +27,7 @@ pub returns-then-is_unmarked-clause-told : goal.returns-then-is_unmarked-clause-
 returns-then-is_unmarked-clause-told g c =
     let same : as_kept c.args.chunk.now ≡ c.args.chunk.now = text_is_same c.args.chunk.now (sym c.if-is_text.ensures) (c.if-is_unmarked.ensures refl) in
     subst (λ (text : List ℕ). OnKept c.take_text.result (IsTrue (g.D.Device.is_honest (session_device c.take_text.new.self)) → (bytes : List ℕ) → StandsFor c.args.self.now bytes → (output : List ℕ)
-    × Appends (g.W.Write.contents c.args.writer.now) (g.W.Write.contents c.take_text.new.writer) output
+    × Appends (g.W.KeptSink.taken c.args.writer.now) (g.W.KeptSink.taken c.take_text.new.writer) output
     × IsPrefix (told_text c.args.self.now bytes ++ output) (told_text c.take_text.new.self (bytes ++ text))
     × OnOk c.take_text.result (told_text c.take_text.new.self (bytes ++ text) ≡ told_text c.args.self.now bytes ++ output)))
     (sym same) c.take_text.ensures.told
@@ -45,7 +45,7 @@ returns-in_err-text-clause-tries g c =
 pub returns-clause-told : goal.returns-clause-told
 returns-clause-told g c =
     subst (λ (text : List ℕ). OnKept c.take_text-2.result (IsTrue (g.D.Device.is_honest (session_device c.take_text-2.new.self)) → (bytes : List ℕ) → StandsFor c.args.self.now bytes → (output : List ℕ)
-    × Appends (g.W.Write.contents c.args.writer.now) (g.W.Write.contents c.take_text-2.new.writer) output
+    × Appends (g.W.KeptSink.taken c.args.writer.now) (g.W.KeptSink.taken c.take_text-2.new.writer) output
     × IsPrefix (told_text c.args.self.now bytes ++ output) (told_text c.take_text-2.new.self (bytes ++ text))
     × OnOk c.take_text-2.result (told_text c.take_text-2.new.self (bytes ++ text) ≡ told_text c.args.self.now bytes ++ output)))
     (c.deref.ensures.value ∙ c.in_ok-text.ensures.text) c.take_text-2.ensures.told

@@ -11,8 +11,8 @@ pub returns-clause-serves : goal.returns-clause-serves
 returns-clause-serves g c =
     let old = c.args.self.now in
     let mid = c.take_if_room.new.self in
-    let a = g.W.Write.contents c.args.writer.now in
-    let b = g.W.Write.contents c.take_if_room.new.writer in
+    let a = g.W.KeptSink.taken c.args.writer.now in
+    let b = g.W.KeptSink.taken c.take_if_room.new.writer in
     let lines = c.args.lines.now in
     if_ok c.take_each.result c.take_each.ensures.serves (λ rest.
     let none : Serves old mid a b [] = subst (λ (is : Bool). Serves old mid a b (if is then as_kept lines else [])) c.if-branch.false c.in_ok-take_if_room.ensures.serves in
@@ -22,12 +22,12 @@ pub returns-clause-stops : goal.returns-clause-stops
 returns-clause-stops g c =
     let old = c.args.self.now in
     let mid = c.take_if_room.new.self in
-    let a = g.W.Write.contents c.args.writer.now in
-    let b = g.W.Write.contents c.take_if_room.new.writer in
+    let a = g.W.KeptSink.taken c.args.writer.now in
+    let b = g.W.KeptSink.taken c.take_if_room.new.writer in
     let lines = c.args.lines.now in
     if_err c.take_each.result c.take_each.ensures.stops (λ rest.
     let none : Serves old mid a b [] = subst (λ (is : Bool). Serves old mid a b (if is then as_kept lines else [])) c.if-branch.false c.in_ok-take_if_room.ensures.serves in
     stops_behind old mid c.take_each.new.self a b _ [] (as_kept lines) none rest)
 
 pub returns-in_err-class-clause-stops : goal.returns-in_err-class-clause-stops
-returns-in_err-class-clause-stops g c = on_err c.from_residual.result (stops_none c.args.self.now (g.W.Write.contents c.args.writer.now) (as_kept c.args.lines.now))
+returns-in_err-class-clause-stops g c = on_err c.from_residual.result (stops_none c.args.self.now (g.W.KeptSink.taken c.args.writer.now) (as_kept c.args.lines.now) c.requires.kept)

@@ -17,7 +17,7 @@ returns-clause-serves g c = if_ok c.take_more-2.result c.take_more-2.ensures.ser
     let w = c.in_ok-take_more.ensures.serves in (
       w.0 ++ here.0,
       parts_are w.0 here.0 c.args.partial.now.items c.take_more.new.partial.items c.take_more-2.new.partial.items c.cut_behind_lines.result.0.now c.cut_behind_lines.result.1.now c.args.chunk.now w.1 here.1 c.cut_behind_lines.ensures,
-      subst (λ (bytes : List ℕ). Serves c.args.self.now c.take_more-2.new.self (g.W.Write.contents c.args.writer.now) (g.W.Write.contents c.take_more-2.new.writer) bytes) (sym (kept_both w.0 here.0))
+      subst (λ (bytes : List ℕ). Serves c.args.self.now c.take_more-2.new.self (g.W.KeptSink.taken c.args.writer.now) (g.W.KeptSink.taken c.take_more-2.new.writer) bytes) (sym (kept_both w.0 here.0))
           (serves_both _ _ _ _ _ _ (as_kept w.0) (as_kept here.0) w.2 here.2),
     ))
 

@@ -15,7 +15,7 @@ shorter : (first later rest : List ℕ) → first ++ later ≡ rest → length r
 shorter first later rest is short = omega (arith, ap length is, length-append first later, short)
 
 pub loop-line-init : goal.loop-line-init
-loop-line-init g c = (c.requires.kept, c.requires.short, refl, ([], refl, serves_none c.args.self.now (g.W.Write.contents c.args.writer.now)))
+loop-line-init g c = (c.requires.kept, c.requires.short, refl, ([], refl, serves_none c.args.self.now (g.W.KeptSink.taken c.args.writer.now)))
 
 pub loop-line-preserved : goal.loop-line-preserved
 loop-line-preserved g c =
@@ -32,7 +32,7 @@ loop-line-preserved g c =
           let w = i.3 in (
             w.0 ++ whole,
             append_assoc w.0 whole later ∙ ap (λ (more : List ℕ). w.0 ++ more) parts ∙ w.1,
-            subst (λ (bytes : List ℕ). Serves c.args.self.now c.take_or_refuse.new.self (g.W.Write.contents c.args.writer.now) (g.W.Write.contents c.take_or_refuse.new.writer) bytes) (sym (kept_both w.0 whole))
+            subst (λ (bytes : List ℕ). Serves c.args.self.now c.take_or_refuse.new.self (g.W.KeptSink.taken c.args.writer.now) (g.W.KeptSink.taken c.take_or_refuse.new.writer) bytes) (sym (kept_both w.0 whole))
                 (serves_both _ _ _ _ _ _ (as_kept w.0) (as_kept whole) w.2 here),
           ),
     )
@@ -42,13 +42,13 @@ returns-then-is_empty-clause-serves g c =
     let w = c.loop-line.invariant.3 in
     let none : c.loop-line.rest.now ≡ [] = no_bytes c.loop-line.rest.now (sym c.is_empty.ensures ∙ c.if-is_empty.true) in
     let all : w.0 ≡ c.args.lines.now = sym (append-nil w.0) ∙ ap (λ (more : List ℕ). w.0 ++ more) (sym none) ∙ w.1 in
-    subst (λ (bytes : List ℕ). Serves c.args.self.now c.loop-line.self (g.W.Write.contents c.args.writer.now) (g.W.Write.contents c.loop-line.writer) (as_kept bytes)) all w.2
+    subst (λ (bytes : List ℕ). Serves c.args.self.now c.loop-line.self (g.W.KeptSink.taken c.args.writer.now) (g.W.KeptSink.taken c.loop-line.writer) (as_kept bytes)) all w.2
 
 pub returns-clause-serves : goal.returns-clause-serves
 returns-clause-serves g c = if_ok c.take_or_refuse-2.result c.take_or_refuse-2.ensures.serves (λ here.
     let w = c.loop-line.invariant.3 in
     let rest = c.loop-line.rest.now in
-    subst (λ (bytes : List ℕ). Serves c.args.self.now c.take_or_refuse-2.new.self (g.W.Write.contents c.args.writer.now) (g.W.Write.contents c.take_or_refuse-2.new.writer) bytes)
+    subst (λ (bytes : List ℕ). Serves c.args.self.now c.take_or_refuse-2.new.self (g.W.KeptSink.taken c.args.writer.now) (g.W.KeptSink.taken c.take_or_refuse-2.new.writer) bytes)
     (sym (kept_both w.0 rest) ∙ ap as_kept w.1)
     (serves_both _ _ _ _ _ _ (as_kept w.0) (as_kept rest) w.2 here))
 

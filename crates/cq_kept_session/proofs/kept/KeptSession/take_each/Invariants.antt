@@ -10,7 +10,7 @@ abbrev pub invariant-loop-line : goal.invariant-loop-line
 invariant-loop-line g l =
     IsKept l.self × (length l.rest ≤ TEXT_LIMIT) × (session_size l.self ≡ session_size l.initial.self)
     × ((done : List ℕ) × (done ++ l.rest ≡ l.initial.rest)
-    × Serves l.initial.self l.self (g.W.Write.contents l.initial.writer) (g.W.Write.contents l.writer) (as_kept done))
+    × Serves l.initial.self l.self (g.W.KeptSink.taken l.initial.writer) (g.W.KeptSink.taken l.writer) (as_kept done))
 
 abbrev pub decreases-loop-line : goal.decreases-loop-line
 decreases-loop-line g l = length l.rest

@@ -11,8 +11,8 @@ pub returns-clause-serves : goal.returns-clause-serves
 returns-clause-serves g c =
     let old = c.args.self.now in
     let mid = c.take_if_room.new.self in
-    let a = g.W.Write.contents c.args.writer.now in
-    let b = g.W.Write.contents c.take_if_room.new.writer in
+    let a = g.W.KeptSink.taken c.args.writer.now in
+    let b = g.W.KeptSink.taken c.take_if_room.new.writer in
     let lines = c.args.lines.now in
     if_ok c.take_by_class.result c.take_by_class.ensures.serves (λ rest.
     let none : Serves old mid a b [] = subst (λ (is : Bool). Serves old mid a b (if is then as_kept lines else [])) c.if-branch.false c.in_ok-take_if_room.ensures.serves in
@@ -22,8 +22,8 @@ pub returns-clause-stops : goal.returns-clause-stops
 returns-clause-stops g c =
     let old = c.args.self.now in
     let mid = c.take_if_room.new.self in
-    let a = g.W.Write.contents c.args.writer.now in
-    let b = g.W.Write.contents c.take_if_room.new.writer in
+    let a = g.W.KeptSink.taken c.args.writer.now in
+    let b = g.W.KeptSink.taken c.take_if_room.new.writer in
     let lines = c.args.lines.now in
     if_err c.take_by_class.result c.take_by_class.ensures.stops (λ rest.
     let none : Serves old mid a b [] = subst (λ (is : Bool). Serves old mid a b (if is then as_kept lines else [])) c.if-branch.false c.in_ok-take_if_room.ensures.serves in

@@ -8,13 +8,13 @@ use Rattle.cq_kept_session.proofs.kept.KeptSession.take_more.Goals as goal
 pub returns-then-is_empty-clause-serves : goal.returns-then-is_empty-clause-serves
 returns-then-is_empty-clause-serves g c =
     let partial = c.args.partial.now.items in
-    ([], sym (append-nil partial) ∙ ap (λ (more : List ℕ). partial ++ more) (sym (no_bytes c.args.bytes.now (sym c.is_empty.ensures ∙ c.if-is_empty.true))), serves_none c.args.self.now (g.W.Write.contents c.args.writer.now))
+    ([], sym (append-nil partial) ∙ ap (λ (more : List ℕ). partial ++ more) (sym (no_bytes c.args.bytes.now (sym c.is_empty.ensures ∙ c.if-is_empty.true))), serves_none c.args.self.now (g.W.KeptSink.taken c.args.writer.now))
 
 pub returns-then-len-limit-clause-serves : goal.returns-then-len-limit-clause-serves
-returns-then-len-limit-clause-serves g c = ([], c.in_ok-extend_from_slice.ensures.items, serves_none c.args.self.now (g.W.Write.contents c.args.writer.now))
+returns-then-len-limit-clause-serves g c = ([], c.in_ok-extend_from_slice.ensures.items, serves_none c.args.self.now (g.W.KeptSink.taken c.args.writer.now))
 
 pub returns-in_err-extend_from_slice-clause-stops : goal.returns-in_err-extend_from_slice-clause-stops
-returns-in_err-extend_from_slice-clause-stops g c = on_err c.from_residual.result (stops_none c.args.self.now (g.W.Write.contents c.args.writer.now) (as_kept (c.args.partial.now.items ++ c.args.bytes.now)))
+returns-in_err-extend_from_slice-clause-stops g c = on_err c.from_residual.result (stops_none c.args.self.now (g.W.KeptSink.taken c.args.writer.now) (as_kept (c.args.partial.now.items ++ c.args.bytes.now)) c.requires.kept)
 
 pub returns-in_err-take_behind_base-clause-stops : goal.returns-in_err-take_behind_base-clause-stops
 returns-in_err-take_behind_base-clause-stops g c =

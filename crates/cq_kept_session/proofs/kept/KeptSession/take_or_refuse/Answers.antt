@@ -11,22 +11,22 @@ pub returns-clause-serves : goal.returns-clause-serves
 returns-clause-serves g c =
     let old = c.args.self.now in
     let new = c.take_if_room.new.self in
-    let a = g.W.Write.contents c.args.writer.now in
-    let b = g.W.Write.contents c.take_if_room.new.writer in
+    let a = g.W.KeptSink.taken c.args.writer.now in
+    let b = g.W.KeptSink.taken c.take_if_room.new.writer in
     let whole = c.args.whole.now in
     let told = c.in_ok-refuse.ensures.told in
     let none : Serves old new a b [] = subst (λ (is : Bool). Serves old new a b (if is then as_kept whole else [])) c.if-branch.false c.in_ok-take_if_room.ensures.serves in
-    serves_both old new new a b (g.W.Write.contents c.refuse.new.writer) [] (as_kept whole) none (serves_refused new b _ told.0 (as_kept whole) told.1)
+    serves_both old new new a b (g.W.KeptSink.taken c.refuse.new.self) [] (as_kept whole) none (serves_refused new b _ told.0 (as_kept whole) told.1)
 
 pub returns-in_err-class-clause-stops : goal.returns-in_err-class-clause-stops
-returns-in_err-class-clause-stops g c = on_err c.from_residual.result (stops_none c.args.self.now (g.W.Write.contents c.args.writer.now) (as_kept c.args.whole.now))
+returns-in_err-class-clause-stops g c = on_err c.from_residual.result (stops_none c.args.self.now (g.W.KeptSink.taken c.args.writer.now) (as_kept c.args.whole.now) c.requires.kept)
 
 pub returns-in_err-refuse-clause-stops : goal.returns-in_err-refuse-clause-stops
 returns-in_err-refuse-clause-stops g c =
     let old = c.args.self.now in
     let new = c.take_if_room.new.self in
-    let a = g.W.Write.contents c.args.writer.now in
-    let b = g.W.Write.contents c.take_if_room.new.writer in
+    let a = g.W.KeptSink.taken c.args.writer.now in
+    let b = g.W.KeptSink.taken c.take_if_room.new.writer in
     let whole = c.args.whole.now in
     let none : Serves old new a b [] = subst (λ (is : Bool). Serves old new a b (if is then as_kept whole else [])) c.if-branch.false c.in_ok-take_if_room.ensures.serves in
-    on_err c.from_residual-in_err-refuse.result (stops_behind old new new a b (g.W.Write.contents c.refuse.new.writer) [] (as_kept whole) none (stops_refusing new b _ (as_kept whole) c.in_err-refuse.ensures.stops))
+    on_err c.from_residual-in_err-refuse.result (stops_behind old new new a b (g.W.KeptSink.taken c.refuse.new.self) [] (as_kept whole) none (stops_refusing new b _ (as_kept whole) c.in_ok-take_if_room.ensures.kept c.in_err-refuse.ensures.stops))

@@ -18,7 +18,7 @@ pub returns-in-Ok-clause-kept : goal.returns-in-Ok-clause-kept
 returns-in-Ok-clause-kept g c =
     let old = c.args.self.now in
     let mid = c.keep.new.self in
-    let new = c.tell.new.self in
+    let new = c.tell.new.session in
     let e = c.keep.ensures in
     let t = c.tell.ensures in
     kept_on old mid new c.args.chunk.now c.requires.unmarked c.requires.kept e.same.0 e.same.1 e.same.2 c.in_ok-keep.ensures.records e.tries.honest t.same.0 t.same.1 c.in_ok-keep.ensures.journal
@@ -28,19 +28,19 @@ returns-in-Ok-clause-kept g c =
 pub returns-in-Ok-clause-records : goal.returns-in-Ok-clause-records
 returns-in-Ok-clause-records g c =
     let e = c.keep.ensures in
-    records_on c.args.self.now c.keep.new.self c.tell.new.self c.args.chunk.now c.requires.unmarked c.requires.kept e.same.0 e.same.1 e.same.2 c.in_ok-keep.ensures.records e.tries.honest c.tell.ensures.same.0 c.tell.ensures.same.1
+    records_on c.args.self.now c.keep.new.self c.tell.new.session c.args.chunk.now c.requires.unmarked c.requires.kept e.same.0 e.same.1 e.same.2 c.in_ok-keep.ensures.records e.tries.honest c.tell.ensures.same.0 c.tell.ensures.same.1
 
 pub returns-in-Ok-clause-stands : goal.returns-in-Ok-clause-stands
 returns-in-Ok-clause-stands g c = λ honest.
     let e = c.keep.ensures in
     let t = c.tell.ensures in
-    stands_on c.args.self.now c.keep.new.self c.tell.new.self c.args.chunk.now c.requires.unmarked c.requires.kept e.same.0 e.same.1 e.same.2 c.in_ok-keep.ensures.records e.tries.honest t.same.0 t.same.1
+    stands_on c.args.self.now c.keep.new.self c.tell.new.session c.args.chunk.now c.requires.unmarked c.requires.kept e.same.0 e.same.1 e.same.2 c.in_ok-keep.ensures.records e.tries.honest t.same.0 t.same.1
 
 pub returns-in-Ok-clause-told : goal.returns-in-Ok-clause-told
 returns-in-Ok-clause-told g c = λ honest bytes stands.
     let old = c.args.self.now in
     let mid = c.keep.new.self in
-    let new = c.tell.new.self in
+    let new = c.tell.new.session in
     let e = c.keep.ensures in
     let t = c.tell.ensures in
     let honest_mid = honest_on old mid new c.args.chunk.now c.requires.unmarked c.requires.kept e.same.0 e.same.1 e.same.2 c.in_ok-keep.ensures.records e.tries.honest t.same.0 t.same.1 honest in
@@ -58,19 +58,19 @@ returns-in-Ok-clause-tries g c = subst (λ j. Tries (adds (c.args.chunk.now ∷ 
 pub returns-in-Err-clause-records : goal.returns-in-Err-clause-records
 returns-in-Err-clause-records g c =
     let e = c.keep.ensures in
-    records_on c.args.self.now c.keep.new.self c.tell.new.self c.args.chunk.now c.requires.unmarked c.requires.kept e.same.0 e.same.1 e.same.2 c.in_ok-keep.ensures.records e.tries.honest c.tell.ensures.same.0 c.tell.ensures.same.1
+    records_on c.args.self.now c.keep.new.self c.tell.new.session c.args.chunk.now c.requires.unmarked c.requires.kept e.same.0 e.same.1 e.same.2 c.in_ok-keep.ensures.records e.tries.honest c.tell.ensures.same.0 c.tell.ensures.same.1
 
 pub returns-in-Err-clause-stands : goal.returns-in-Err-clause-stands
 returns-in-Err-clause-stands g c = λ honest.
     let e = c.keep.ensures in
     let t = c.tell.ensures in
-    stands_on c.args.self.now c.keep.new.self c.tell.new.self c.args.chunk.now c.requires.unmarked c.requires.kept e.same.0 e.same.1 e.same.2 c.in_ok-keep.ensures.records e.tries.honest t.same.0 t.same.1
+    stands_on c.args.self.now c.keep.new.self c.tell.new.session c.args.chunk.now c.requires.unmarked c.requires.kept e.same.0 e.same.1 e.same.2 c.in_ok-keep.ensures.records e.tries.honest t.same.0 t.same.1
 
 pub returns-in-Err-clause-told : goal.returns-in-Err-clause-told
 returns-in-Err-clause-told g c = λ honest bytes stands.
     let old = c.args.self.now in
     let mid = c.keep.new.self in
-    let new = c.tell.new.self in
+    let new = c.tell.new.session in
     let e = c.keep.ensures in
     let t = c.tell.ensures in
     let honest_mid = honest_on old mid new c.args.chunk.now c.requires.unmarked c.requires.kept e.same.0 e.same.1 e.same.2 c.in_ok-keep.ensures.records e.tries.honest t.same.0 t.same.1 honest in
