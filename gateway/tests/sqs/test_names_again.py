@@ -37,11 +37,11 @@ class Named(Kept):
         found = all_names_in_store(self.journal).items()
         return {name: incarnation for name, incarnation in found if incarnation and not name.startswith("b")}
 
-    def create_as(self, stored: str, name: str) -> str:
+    def create_as(self, stored: str, name: str, **attributes: str) -> str:
         """Creates a queue that has this name in the store, which is free. It waits once more where the gateway itself still has the queue
-        before, as in a sweep of all queues."""
+        before, as in a sweep of all queues, or in what it does next once `cq` is there again."""
         for _ in range(4):
-            queue = self.create(name)
+            queue = self.create(name, **attributes)
             if stored in self.queues_in_store():
                 return queue
             self.call("DeleteQueue", QueueUrl=queue)
@@ -99,7 +99,7 @@ def test_nothing_of_a_queue_that_is_gone_touches_the_next_one_of_its_name(kept, 
     kept.call("DeleteQueue", QueueUrl=old)
     kept.end(ended)
     kept.move(PAUSE)
-    new = kept.create(behind, **attributes)
+    new = kept.create_as(store, behind, **attributes)
     kept.end(ended)
     assert kept.queues_in_store() == {store: 2}
     # Nothing of the old one is there, also not under its attempt.
