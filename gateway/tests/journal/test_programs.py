@@ -11,10 +11,10 @@ from pathlib import Path
 import pytest
 
 from meanwhile import meanwhile
-from operated import admin_url, get, metric
+from operated import admin_url, figure, get, is_well
 from rules import FIFO
 from stand_in import StandIn
-from started import LIBRARY, ByJson, Refused, Started, command, environment, program, programs_of, run
+from started import LIBRARY, ByJson, Refused, Started, command, environment, is_alive, program, programs_of, run
 from steered import SteeredCq
 from waiting import pass_time, until
 
@@ -29,30 +29,23 @@ def send(call: ByJson, number: int) -> None:
     call("SendMessage", QueueUrl="q.fifo", MessageBody=str(number), MessageGroupId="g", MessageDeduplicationId=str(number))
 
 
-def is_alive(process: int) -> bool:
-    try:
-        return Path(f"/proc/{process}/stat").read_text().split(")")[1].split()[0] != "Z"
-    except OSError:
-        return False
-
-
 @pytest.mark.parametrize("what", ["hang", "close", "garbage", "endless", "misnumbered"])
 def test_a_program_that_answers_no_more_is_started_anew(tmp_path, stand_in, what):
     with Started("--cq", str(stand_in.path), "--cq-timeout", "4", "--journal", str(tmp_path / "journal"), "--admin", "0") as gateway:
         call = ByJson(gateway.url)
         call("CreateQueue", QueueName="q.fifo", Attributes=FIFO)
         send(call, 1)
-        assert get(admin_url(gateway) + "/health") == (200, "serving\n")
+        is_well(gateway)
         (first,) = programs_of(gateway)
         stand_in.tell(f"once-{what}")
-        with meanwhile(partial(send, call, 2), patience=20):
+        with meanwhile(partial(send, call, 2)):
             if what == "hang":
                 until(lambda: get(admin_url(gateway) + "/health") == (503, "waiting: cq doesn't answer\n"), 3, "it is well")
-                assert metric(get(admin_url(gateway) + "/metrics")[1], "hobbychair_cq_answering") in (0, 1)
-        until(lambda: not is_alive(first), 5, "the first program runs still")
-        assert get(admin_url(gateway) + "/health") == (200, "serving\n")
-        text = get(admin_url(gateway) + "/metrics")[1]
-        assert metric(text, "hobbychair_cq_restarts_total") == 1 and metric(text, "hobbychair_cq_answering") == 1
+                assert figure(gateway, "hobbychair_cq_answering") in (0, 1)
+        until(lambda: not is_alive(first), 20, "the first program runs still")
+        is_well(gateway)
+        until(lambda: figure(gateway, "hobbychair_cq_answering") == 1, 20, "cq doesn't answer")
+        assert figure(gateway, "hobbychair_cq_restarts_total") == 1
         messages = call("ReceiveMessage", QueueUrl="q.fifo", MaxNumberOfMessages=10)["Messages"]
         assert [message["Body"] for message in messages] == ["1", "2"]
 
@@ -100,11 +93,11 @@ def test_no_program_outlives_the_gateway(tmp_path, stand_in, number, what):
     call = ByJson(gateway.url)
     (stood_in,) = programs_of(gateway)
     stand_in.tell(what)
-    with meanwhile(lambda: pytest.raises((OSError, Refused), call, "CreateQueue", QueueName="q", Attributes={}), patience=20):
+    with meanwhile(lambda: pytest.raises((OSError, Refused), call, "CreateQueue", QueueName="q", Attributes={})):
         pass_time(0.5, "the stand-in has heard of it")
         gateway.process.send_signal(number)
         assert gateway.process.wait(20) == (0 if number == signal.SIGTERM else -number)
-        until(lambda: not is_alive(stood_in), 5, "the program runs still")
+        until(lambda: not is_alive(stood_in), 20, "the program runs still")
 
 
 def test_an_answer_out_of_turn_loses_no_message_of_a_batch(tmp_path, stand_in):
@@ -205,7 +198,7 @@ def test_a_cq_that_is_killed_before_it_has_read_its_journal_is_started_again(tmp
         os.kill(programs_of(gateway)[0], signal.SIGKILL)
         call("SendMessage", QueueUrl="q", MessageBody="b")
         assert len((tmp_path / "starts").read_text()) == 1 + ends + 1
-        assert metric(get(admin_url(gateway) + "/metrics")[1], "hobbychair_cq_restarts_total") == ends + 1
+        assert figure(gateway, "hobbychair_cq_restarts_total") == ends + 1
         messages = call("ReceiveMessage", QueueUrl="q", MaxNumberOfMessages=10)["Messages"]
         assert [message["Body"] for message in messages] == ["a", "b"]
 

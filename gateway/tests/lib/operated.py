@@ -40,3 +40,8 @@ def polls(gateway: Started | str, count: int) -> None:
 def connections(gateway: Started, count: int) -> None:
     """Waits until so many connections are open."""
     until(lambda: figure(gateway, "hobbychair_connections") == count, 20, f"not {count} connections are open")
+
+
+def is_well(gateway: Started) -> None:
+    """Waits until it says that it serves: it doesn't where `cq` has had so much to do that no answer came in time."""
+    until(lambda: get(admin_url(gateway) + "/health") == (200, "serving\n"), 20, "it doesn't say that it serves")

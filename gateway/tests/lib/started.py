@@ -188,6 +188,14 @@ def _file_kept_by(child: int) -> str:
     return words[words.index("--journal") + 1] if "--journal" in words else ""
 
 
+def is_alive(process: int) -> bool:
+    """Whether it runs still. One that has ended may be there until somebody has waited for it."""
+    try:
+        return Path(f"/proc/{process}/stat").read_text().rsplit(")", 1)[1].split()[0] != "Z"
+    except OSError:
+        return False
+
+
 def memory_of(process: int) -> int:
     """What is resident of a process, in KiB."""
     return _status(process, "VmRSS")

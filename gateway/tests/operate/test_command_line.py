@@ -8,7 +8,7 @@ import urllib.error
 
 import pytest
 
-from started import TOP, ByJson, Started, environment, programs_of, run
+from started import TOP, ByJson, Started, environment, is_alive, programs_of, run
 from waiting import until
 
 
@@ -89,7 +89,7 @@ def test_cq_ends_with_the_gateway():
     gateway = Started()
     (cq,) = programs_of(gateway)
     gateway.kill()
-    until(lambda: not os.path.exists(f"/proc/{cq}") or open(f"/proc/{cq}/stat").read().split()[2] == "Z", 5, "cq runs still")
+    until(lambda: not is_alive(cq), 20, "cq runs still")
 
 
 def test_a_history_is_judged_by_its_status(tmp_path):

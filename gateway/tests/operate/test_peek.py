@@ -285,7 +285,7 @@ class Work:
             both[:] = [(counted(self.call, name), shown(self.gateway, name)) for name in self.queues]
             return all(count == seen for count, seen in both)
 
-        until(are_equal, 10, lambda: f"counted and shown: {both}")
+        until(are_equal, 20, lambda: f"counted and shown: {both}")
         return [seen for _, seen in both]
 
 

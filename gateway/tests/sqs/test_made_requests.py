@@ -12,7 +12,7 @@ from functools import partial
 from typing import Any
 
 from meanwhile import at_once, meanwhile
-from operated import admin_url, get, metric
+from operated import figure, is_well
 from started import ByJson, Refused, Started, command, programs_of
 from waiting import pace
 
@@ -256,7 +256,7 @@ def test_made_requests_end_nothing_and_others_are_served(monkeypatch, tmp_path):
         print([(one.done, round(one.slowest, 2)) for one in ordinary])
         assert gateway.process.poll() is None and programs_of(gateway) == programs, (SEED, log)
         assert "ERROR" not in log
-        assert metric(get(admin_url(gateway) + "/metrics")[1], "hobbychair_cq_restarts_total") == 0
-        assert get(admin_url(gateway) + "/health") == (200, "serving\n")
+        assert figure(gateway, "hobbychair_cq_restarts_total") == 0
+        is_well(gateway)
     finally:
         assert gateway.stop() == 0, (SEED, (tmp_path / "log").read_text())
