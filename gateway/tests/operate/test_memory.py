@@ -14,6 +14,7 @@ import pytest
 from meanwhile import at_once
 from operated import admin_url, get, metric, polls
 from rules import FIFO
+from sockets import is_all_read, readable
 from started import TOP, ByJson, Refused, Started, command, environment, peak_of, post, programs_of
 from waiting import pass_time, until
 
@@ -92,25 +93,23 @@ def test_small_requests_have_a_bound_together_and_large_ones_keep_none_out():
             connection.sendall(head.encode() + b"{" + b" " * (length - 2))
             return connection
 
+        port = int(gateway.url.rsplit(":", 1)[1])
         large = [*at_once([lambda: unfinished(6 * MEBIBYTE)] * 10), unfinished(3_900_000)]
-        pass_time(1, "the bodies have come")
+        until(lambda: is_all_read(port, len(large)), 20, "the bodies don't come")
         with pytest.raises(Refused, match="ServiceUnavailable 503"):
             call("SendMessage", QueueUrl="q", MessageBody="x" * 900_000)
         call("SendMessage", QueueUrl="q", MessageBody="x" * 10_000)
         small = [connection for _ in range(20) for connection in at_once([lambda: unfinished(16_000)] * 100)]
-        pass_time(1, "the bodies have come")
-        # What is refused is answered at once.
-        poll, by_number = select.poll(), {connection.fileno(): connection for connection in small}
-        for number in by_number:
-            poll.register(number, select.POLLIN)
-        answered = [by_number[number] for number, _ in poll.poll(0)]
-        assert 400 < len(answered) < 1_600 and {status_of(connection) for connection in answered} == {503}
+        until(lambda: len(readable(small)) > 400, 20, "small requests have no bound")
+        pass_time(1, "what is refused is answered at once")
+        turned_away = readable(small)
+        assert len(turned_away) < 1_600 and {status_of(connection) for connection in turned_away} == {503}
         assert peak_of(gateway.process.pid) < 64 + 2 * 80 + 64
         call("SendMessage", QueueUrl="q", MessageBody="x")
         for connection in [*large, *small]:
             connection.close()
-        pass_time(1, "the gateway sees that they are closed")
-        call("SendMessage", QueueUrl="q", MessageBody="x" * 900_000)
+        send = lambda: call("SendMessage", QueueUrl="q", MessageBody="x" * 900_000)
+        until(lambda: has_room(send), 20, "what they kept isn't free again")
 
 
 def refused(gateway: Started, action: str, **members: Any) -> tuple[str, int, bytes]:
@@ -146,7 +145,8 @@ def try_requests(gateway: Started) -> None:
     assert call("ReceiveMessage", QueueUrl="small.fifo")["Messages"]
     statuses = [status_of(connection) for connection in unread]
     assert set(statuses) == {200, 503}
-    assert call("ReceiveMessage", QueueUrl="q", MaxNumberOfMessages=10)["Messages"], "what they kept is free again"
+    receive = lambda: call("ReceiveMessage", QueueUrl="q", MaxNumberOfMessages=10)["Messages"]
+    until(lambda: has_room(receive), 20, "what they kept isn't free again")
 
 
 def try_head(gateway: Started) -> None:
@@ -273,10 +273,14 @@ def try_connections(gateway: Started) -> None:
 def try_polls(gateway: Started) -> None:
     ByJson(gateway.url)("CreateQueue", QueueName="q.fifo", Attributes=FIFO)
     names = json.dumps(["n" * 256] * 100)
-    body = f'{{"QueueUrl":"q.fifo","WaitTimeSeconds":1,"MessageAttributeNames":{names}}}'.encode()
+    body = f'{{"QueueUrl":"q.fifo","WaitTimeSeconds":20,"MessageAttributeNames":{names}}}'.encode()
     asked = at_once([lambda: begin(gateway, "ReceiveMessage", body, f"amz-sdk-invocation-id: {'x' * 30_000}")] * 100)
+    until(lambda: len(readable(asked)) >= 60, 15, "more of them wait than may")
+    polls(gateway, 40)
+    # Its end is that of all that wait.
+    ByJson(gateway.url)("DeleteQueue", QueueUrl="q.fifo")
     statuses = [status_of(one) for one in asked]
-    assert statuses.count(200) == 40 and statuses.count(503) == 60
+    assert statuses.count(400) == 40 and statuses.count(503) == 60
 
 
 def try_operators(gateway: Started) -> None:
@@ -310,7 +314,7 @@ def try_peeks(gateway: Started) -> None:
         unread = at_once([look] * 32)
         statuses = [status_of(connection) for connection in unread]
         assert set(statuses) == {200, 503}
-        assert status_of(look()) == 200, "what they kept is free again"
+        until(lambda: status_of(look()) == 200, 20, "what they kept isn't free again")
         assert peak_of(shown.process.pid) < 64 + 2 * 64 + 64
 
 

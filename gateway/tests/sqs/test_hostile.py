@@ -9,15 +9,17 @@ import socket
 import struct
 import time
 from collections.abc import Iterator
+from contextlib import suppress
 from functools import partial
 from urllib.parse import urlsplit
 
 import pytest
 
 from meanwhile import at_once
-from operated import admin_url, connections, polls
+from operated import admin_url, connections, figure, polls
+from sockets import is_all_read
 from started import ByJson, Started
-from waiting import pass_time
+from waiting import pass_time, until
 
 JSON = b"X-Amz-Target: AmazonSQS.%s\r\nContent-Type: application/x-amz-json-1.0\r\n"
 LONGEST_BODY = 6 * 1_048_576 + 65_536
@@ -330,21 +332,23 @@ def test_a_slow_request_is_cut_off_and_an_idle_connection_stays():
             connection = connect(gateway)
             begun = time.monotonic()
             connection.sendall(first)
-            while not select.select([connection], [], [], 1)[0] and time.monotonic() - begun < 40:
-                connection.sendall(piece)
+            # A piece may come to a connection that has just ended.
+            with suppress(BrokenPipeError, ConnectionResetError):
+                while not select.select([connection], [], [], 1)[0] and time.monotonic() - begun < 40:
+                    connection.sendall(piece)
             connection.settimeout(5)
-            try:
-                got = read_all(connection)
-            except ConnectionResetError:
-                got = b""
+            got = b""
+            with suppress(ConnectionResetError):
+                while come := connection.recv(1 << 16):
+                    got += come
             ended[name] = (time.monotonic() - begun, got)
 
         at_once([partial(send_slowly, name) for name in slow])
         assert sorted(ended) == sorted(slow)
         for name, (seconds, got) in ended.items():
-            assert 28 < seconds < 35, (name, seconds)
+            assert 28 < seconds < 40, (name, seconds)
             assert got == b"" if name == "head" else got.startswith(b"HTTP/1.1 408 "), (name, got)
-        assert 28 < time.monotonic() - begun_behind < 35
+        assert 28 < time.monotonic() - begun_behind < 45
         assert select.select([behind], [], [], 2)[0] and read_all(behind) == b""
         operator.sendall(b"GET /health HTTP/1.1\r\nHost: localhost\r\n\r\n")
         for connection in (idle, blank):
@@ -374,7 +378,8 @@ def test_polls_whose_clients_have_gone_make_room_at_once():
             polls(gateway, 3)
             for poll in waiting:
                 poll.close()
-            pass_time(0.5, "they make room within that time")
+            # Long before their time is up.
+            until(lambda: figure(gateway, "hobbychair_long_polls") == 0, 10, "they make no room")
             short = b'{"QueueUrl":"q.fifo","WaitTimeSeconds":1}'
             again = connect(gateway)
             again.sendall(head(b"ReceiveMessage", len(short)) + short)
@@ -388,7 +393,7 @@ def test_large_bodies_that_never_end_keep_no_ordinary_request_out():
         unended = [connect(gateway) for _ in range(42)]
         for connection in unended:
             connection.sendall(head(b"SendMessage", LONGEST_BODY) + b"x" * (LONGEST_BODY - 1))
-        pass_time(1, "the bodies have come, and nobody says so")
+        until(lambda: is_all_read(int(gateway.url.rsplit(":", 1)[1]), 42), 20, "the bodies don't come")
         call("SendMessage", QueueUrl="q.fifo", MessageBody="b" * 10_000, MessageGroupId="g", MessageDeduplicationId="d")
         above = connect(gateway)
         above.sendall(head(b"SendMessage", LONGEST_BODY) + b"x" * LONGEST_BODY)

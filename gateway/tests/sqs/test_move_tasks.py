@@ -4,6 +4,7 @@ import json
 import random
 import signal
 import socket
+import time
 from functools import partial
 from typing import Any
 
@@ -14,6 +15,7 @@ from botocore.credentials import Credentials
 
 from meanwhile import meanwhile
 from rules import Rules, arn, policy
+from sockets import is_all_read
 from started import ByJson, ByQuery, Refused, Started, handing, post
 from steered import SteeredCq
 from waiting import pace, pass_time, until
@@ -82,22 +84,25 @@ def test_each_message_goes_back_to_its_queue(tasks):
 
 def test_a_task_has_a_rate_and_can_be_cancelled(tasks):
     queue, dead = dead_pair(tasks)
-    other = tasks.queue(VisibilityTimeout="0")
-    fill(tasks, queue, 12)
+    other, count = tasks.queue(VisibilityTimeout="0"), 60
+    fill(tasks, queue, count)
     start = lambda **more: tasks.call("StartMessageMoveTask", SourceArn=arn(dead), DestinationArn=arn(other), **more)  # noqa: E731
+    begun = time.monotonic()
     handle = start(MaxNumberOfMessagesPerSecond=5)["TaskHandle"]
     (task,) = listed(tasks, dead)
     assert (task["Status"], task["TaskHandle"], task["DestinationArn"]) == ("RUNNING", handle, arn(other))
     assert int(task["MaxNumberOfMessagesPerSecond"]) == 5
     tasks.refused("InvalidParameterValue", start)
     until(lambda: tasks.receive(other), 20, "nothing is moved")
-    moved = int(tasks.call("CancelMessageMoveTask", TaskHandle=handle)["ApproximateNumberOfMessagesMoved"])
-    assert moved in (0, 5)
+    told = int(tasks.call("CancelMessageMoveTask", TaskHandle=handle)["ApproximateNumberOfMessagesMoved"])
+    # Five at once, and no more each second. The last ones may not be counted yet.
+    moved, _, _ = tasks.counts(other)
+    assert moved % 5 == 0 and moved <= 5 * (1 + int(time.monotonic() - begun)) and told in (moved - 5, moved)
     (task,) = listed(tasks, dead)
     assert task["Status"] == "CANCELLED" and "TaskHandle" not in task
     tasks.refused("InvalidParameterValue", lambda: tasks.call("CancelMessageMoveTask", TaskHandle=handle))
     pass_time(1.2, "a task that goes on would move more each second")
-    assert len(tasks.receive(other)) == 5 and len(tasks.receive(dead, VisibilityTimeout=0)) == 7
+    assert (tasks.counts(other)[0], tasks.counts(dead)[0]) == (moved, count - moved)
     start()
     assert ended(tasks, dead)["Status"] == "COMPLETED"
     assert [task["Status"] for task in listed(tasks, dead, 10)] == ["COMPLETED", "CANCELLED"]
@@ -106,7 +111,7 @@ def test_a_task_has_a_rate_and_can_be_cancelled(tasks):
         for message in messages:
             bodies.append(int(message["Body"]))
             tasks.delete(other, message)
-    assert sorted(bodies) == list(range(12)) and tasks.receive(dead) == []
+    assert sorted(bodies) == list(range(count)) and tasks.receive(dead) == []
 
 
 def test_what_can_not_be_moved_is_refused_or_fails(tasks, gateway):
@@ -240,7 +245,9 @@ def test_a_task_needs_the_rights_to_what_it_does(tmp_path):
     dead, more = "dead", {"VisibilityTimeout": "0", "RedrivePolicy": policy("dead")}
     for name, attributes in ((dead, {}), ("q", more), ("other", {})):
         assert call("A", "CreateQueue", QueueName=name, Attributes=attributes)[0] == 200
-    for _ in range(3):
+    # One each second: the task is far from its end when a key changes.
+    count = 40
+    for _ in range(count):
         assert call("A", "SendMessage", QueueUrl=dead, MessageBody="of the dead-letter queue")[0] == 200
     lacks = {"start": "receivemessage", "take": "sendmessage", "send": "receivemessage"}
     lacks |= {f"no-{one}": one.lower() for one in source}
@@ -249,7 +256,8 @@ def test_a_task_needs_the_rights_to_what_it_does(tmp_path):
             status, error = call(key, start, SourceArn=arn(dead), **destination)
             assert (status, error["__type"].split("#")[1]) == (403, "AccessDeniedException"), (key, error)
             assert f"sqs:{action}" in error["message"], (key, error)
-    assert int(call("A", "GetQueueAttributes", QueueUrl=dead, AttributeNames=["All"])[1]["Attributes"]["ApproximateNumberOfMessages"]) == 3
+    told = call("A", "GetQueueAttributes", QueueUrl=dead, AttributeNames=["All"])[1]["Attributes"]
+    assert int(told["ApproximateNumberOfMessages"]) == count
     status, started = call("all", start, SourceArn=arn(dead), DestinationArn=arn("other"), MaxNumberOfMessagesPerSecond=1)
     assert status == 200 and started["TaskHandle"]
     (told,) = call("A", "ListMessageMoveTasks", SourceArn=arn(dead))[1]["Results"]
@@ -280,7 +288,8 @@ def test_a_task_whose_client_has_gone_moves_messages(tmp_path):
                 client.sendall(b"POST / HTTP/1.1\r\nHost: 127.0.0.1\r\nX-Amz-Target: AmazonSQS.StartMessageMoveTask\r\n"
                                b"Content-Type: application/x-amz-json-1.0\r\n"
                                + f"Content-Length: {len(body)}\r\n\r\n".encode() + body)
-                pass_time(0.3, "the gateway reads the request")
+                until(lambda: is_all_read(int(gateway.url.rsplit(":", 1)[-1]), 2), 20, "the gateway doesn't read the request")
+                pass_time(0.1, "what was read has begun")
             pass_time(0.3, "the gateway sees that the client has gone")
             cq.tell()
         task = ended(rules, dead)
@@ -325,7 +334,9 @@ def test_a_task_moves_nothing_to_queues_that_its_key_does_not_allow(tmp_path):
         assert good("A", "ReceiveMessage", QueueUrl="a-1") == {}
         good("A", "PurgeQueue", QueueUrl="b-dead")
         # A key that allows less meanwhile moves no more, also after a start.
-        for body in ("1", "2", "3"):
+        # One each second, and the gateway is killed behind the first.
+        bodies = [str(number) for number in range(20)]
+        for body in bodies:
             die("b-1", body)
         assert start()[0] == 200
         until(lambda: task()["ApproximateNumberOfMessagesMoved"] >= 1, 20, "nothing is moved")
@@ -333,4 +344,4 @@ def test_a_task_moves_nothing_to_queues_that_its_key_does_not_allow(tmp_path):
         keys.write_text(of.format("A", "") + of.format("B", 'queues = ["none-"]'))
         gateway.start()
         assert until(lambda: task()["Status"] == "FAILED", 20, "the task doesn't fail") and task()["FailureReason"] == "AccessDenied"
-        assert task()["ApproximateNumberOfMessagesMoved"] < 3
+        assert task()["ApproximateNumberOfMessagesMoved"] < len(bodies)
