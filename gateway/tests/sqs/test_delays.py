@@ -97,7 +97,7 @@ def test_a_long_poll_is_served_when_a_message_is_due(delays, gateway):
         holds(lambda: not poll.done(), 0.2, "it is handed out ahead of its delay")
         began = time.monotonic()
         delays.move(100_000)
-    assert poll.result() == ["b"] and time.monotonic() - began < 5
+    assert poll.result() == ["b"] and time.monotonic() - began < 15
 
 
 def test_a_long_poll_is_served_when_the_delay_is_taken_away(delays, gateway):
@@ -107,7 +107,7 @@ def test_a_long_poll_is_served_when_the_delay_is_taken_away(delays, gateway):
         polls(gateway, 1)
         began = time.monotonic()
         delays.call("SetQueueAttributes", QueueUrl=queue, Attributes={"DelaySeconds": "0"})
-    assert poll.result() == ["b"] and time.monotonic() - began < 5
+    assert poll.result() == ["b"] and time.monotonic() - began < 15
 
 
 def test_a_removal_ends_a_long_poll_of_a_delayed_queue(delays, gateway):
@@ -165,7 +165,7 @@ def test_many_clients_are_handed_what_is_due_in_order(tmp_path):
                     own("DeleteMessage", QueueUrl=url, ReceiptHandle=message["ReceiptHandle"])
 
         with meanwhile(*[partial(send, client) for client in range(4)], *[receive] * 4) as works:
-            comes(lambda: len(received) >= 240 or any(work.done() and work.exception() for work in works), 30)
+            comes(lambda: len(received) >= 240 or any(work.done() and work.exception() for work in works), 60)
             done.set()
         for client in range(4):
             assert [place for group, place in received if group == f"g{client}"] == list(range(60))

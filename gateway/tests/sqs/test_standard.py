@@ -341,7 +341,7 @@ def test_a_long_poll_is_served_when_a_message_is_due(standard, gateway):
         holds(lambda: not poll.done(), 0.2, "it is handed out ahead of its delay")
         began = time.monotonic()
         standard.move(100_000)
-    assert poll.result() == ["b"] and time.monotonic() - began < 5
+    assert poll.result() == ["b"] and time.monotonic() - began < 15
 
 
 def test_a_due_message_is_sent_once_however_long_the_store_takes(tmp_path):
