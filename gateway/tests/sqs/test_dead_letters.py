@@ -8,6 +8,7 @@ import threading
 import time
 import zlib
 from collections.abc import Callable
+from contextlib import suppress
 
 import boto3
 import pytest
@@ -170,7 +171,7 @@ def test_long_polls_are_served_behind_a_move_and_by_one(letters, pair, gateway):
         polls(gateway, 1)
         began = time.monotonic()
         assert letters.bodies(queue, 1, WaitTimeSeconds=20) == ["10"]
-    assert time.monotonic() - began < 5
+    assert time.monotonic() - began < 15
     assert poll.result()[0] == "0"
 
 
@@ -374,7 +375,9 @@ def test_a_move_that_was_cut_off_keeps_nobody_waiting(tmp_path):
         with meanwhile(lambda: pytest.raises(Exception, rules.receive, queue, 1, VisibilityTimeout=43_200)):
             pass_time(0.5, "it is handed out, and its copy isn't sent")
             gateway.kill()
-            os.kill(stopped, signal.SIGKILL)
+            # It ends with the gateway, and may be gone by now.
+            with suppress(ProcessLookupError):
+                os.kill(stopped, signal.SIGKILL)
         gateway.start()
         rules.call = ByBoto3(gateway.client())
         assert rules.bodies(queue) == ["two"]
@@ -428,14 +431,19 @@ def test_each_message_moves_once_whatever_is_killed(tmp_path, shards):
         delay = {1: "0", 2: "1"}[shards]
         call("CreateQueue", QueueName=load.queue, Attributes={
             "FifoQueue": "true", "RedrivePolicy": policy(load.dead, 1), "DelaySeconds": delay})
-        for kill in range(1, -(-KILLS // 2) + 1):
+        rounds = -(-KILLS // 2)
+        # More where a slow machine has moved few messages by then.
+        for kill in itertools.count(1):
+            assert kill <= 5 * rounds, f"{len(load.moved)} messages were moved"
             load.run(gateway, kills_cq=kill % 3 == 0)
             # What is in flight and its ids are over, at the one time or the other.
             gateway.set_clock(gateway.moment + load.random.choice([2_000, 31_000, 601_000]))
             if kill % 3 != 0:
                 gateway.start()
             call = ByBoto3(gateway.client())
-            if kill % 4 == 0 or kill == -(-KILLS // 2):
+            is_last = kill >= rounds and len(load.moved) > KILLS
+            if kill % 4 == 0 or is_last:
                 load.check(call)
                 gateway.set_clock(gateway.moment + 31_000)
-        assert len(load.moved) > KILLS
+            if is_last:
+                break

@@ -205,8 +205,8 @@ def test_repeats_by_an_sdk_touch_no_later_queue(kept):
 def test_a_task_of_a_queue_that_is_gone_moves_and_ends_nothing(kept, ended):
     """The later queue has the same name by which clients know it, too."""
     def pair() -> tuple[str, str]:
-        dead = kept.create("dead.fifo")
-        return kept.create("source.fifo", RedrivePolicy=policy(dead)), dead
+        dead = kept.create_as("1.fifo", "dead.fifo")
+        return kept.create_as("2.fifo", "source.fifo", RedrivePolicy=policy(dead)), dead
 
     def fill(source: str) -> None:
         for number in range(4):
@@ -223,7 +223,8 @@ def test_a_task_of_a_queue_that_is_gone_moves_and_ends_nothing(kept, ended):
     pass_time(1.5, "a task goes on once a second")
     kept.move(PAUSE)
     source, dead = pair()
-    assert kept.queues_in_store() == {"1.fifo": 2, "2.fifo": 2}
+    found = kept.queues_in_store()
+    assert found.keys() == {"1.fifo", "2.fifo"} and min(found.values()) > 1
     fill(source)
     assert kept.refusal("CancelMessageMoveTask", TaskHandle=handle) == "ResourceNotFoundException"
     assert kept.call("ListMessageMoveTasks", SourceArn=arn("dead.fifo")).get("Results", []) == []
@@ -271,7 +272,8 @@ def test_no_message_id_comes_twice(kept, kind):
         while messages := kept.receive(queue):
             got |= {message["MessageId"]: message["Body"] for message in messages}
         assert len(got) == 3 + (not kind) and set(got) <= set(ids)
-        if turn % 10 == 5:
+        # By turns: one of both has the first name.
+        if turn % 10 in (4, 5):
             names |= kept.queues_in_store().keys()
         kept.call("DeleteQueue", QueueUrl=queue)
         kept.end({0: "gateway", 5: "cq"}.get(turn % 10, "nothing"))
@@ -289,7 +291,7 @@ def test_queues_come_and_go_for_ever_once_time_passes(tmp_path, is_kept):
 
     def create(name: str) -> str:
         # A full memory is free again as soon as a book is begun anew.
-        latest = time.monotonic() + 20
+        latest = time.monotonic() + 60
         while True:
             try:
                 return call("CreateQueue", QueueName=name)["QueueUrl"]

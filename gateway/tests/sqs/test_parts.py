@@ -4,6 +4,7 @@ import json
 import random
 import zlib
 from functools import partial
+from http.client import HTTPException
 from pathlib import Path
 
 import pytest
@@ -150,8 +151,8 @@ def test_what_is_left_after_kills_has_its_parts_and_nothing_else_does(tmp_path, 
     kept = Parted(tmp_path, kind, "--journal-size", "512MiB")
     kept.create(f"dead{kind}", VisibilityTimeout="0")
     kept.call("SetQueueAttributes", QueueUrl=kept.name, Attributes={"RedrivePolicy": policy(f"dead{kind}", 2)})
-    sure: set[str] = set()
-    maybe: set[str] = set()
+    # What was begun, and what was acknowledged of it.
+    sends, sent, deletes, deleted = (set[str]() for _ in range(4))
 
     def body_of(name: str) -> str:
         return name + "." * (zlib.crc32(name.encode()) % 3 * 250_000)
@@ -162,9 +163,9 @@ def test_what_is_left_after_kills_has_its_parts_and_nothing_else_does(tmp_path, 
             name = f"{round}-{worker}-{step}"
             try:
                 if own.random() < 0.6:
-                    maybe.add(name)
+                    sends.add(name)
                     kept.send(body_of(name), name)
-                    sure.add(name)
+                    sent.add(name)
                 else:
                     queue = own.choice([kept.name, f"dead{kind}"])
                     timeout = own.choice([0, 30])
@@ -172,10 +173,10 @@ def test_what_is_left_after_kills_has_its_parts_and_nothing_else_does(tmp_path, 
                         name = message["Body"].rstrip(".")
                         assert message["Body"] == body_of(name)
                         if timeout and own.random() < 0.5:
-                            sure.discard(name)
+                            deletes.add(name)
                             kept.delete(queue, message)
-                            maybe.discard(name)
-            except (OSError, Refused, json.JSONDecodeError):
+                            deleted.add(name)
+            except (OSError, HTTPException, Refused, json.JSONDecodeError):
                 return
 
     for round in range(5):
@@ -190,7 +191,7 @@ def test_what_is_left_after_kills_has_its_parts_and_nothing_else_does(tmp_path, 
         while messages := kept.receive(queue):
             assert all(message["Body"] == body_of(message["Body"].rstrip(".")) for message in messages)
             found += [message["Body"].rstrip(".") for message in messages]
-    assert sure <= set(found) and len(found) == len(set(found)) and set(found) <= maybe | sure
+    assert sent - deletes <= set(found) <= sends - deleted and len(found) == len(set(found))
     large = sum(len(body_of(name)) > 262_144 for name in found)
     kept.comes_to(large)
     kept.restart()

@@ -32,6 +32,15 @@ class Purged(Kept):
     def receive(self, count: int = 10, **more) -> list[dict]:
         return super().receive(self.name, MaxNumberOfMessages=count, **more)
 
+    def is_taken(self, body: str, **more) -> bool:
+        """Whether a send is taken. One that is open while the program ends at something else, and again, fails and isn't there."""
+        try:
+            self.send(body, **more)
+        except Refused as refused:
+            assert refused.code == "InternalFailure", refused
+            return False
+        return True
+
     def counts(self) -> list[int]:
         return super().counts(self.name)
 
@@ -70,10 +79,8 @@ def test_a_purge_that_fails_goes_on_and_leaves_what_was_sent_since(tmp_path, kin
     with pytest.raises(Refused, match="InternalFailure"):
         purged.purge()
     assert purged.cq.ends() >= 2
-    for body in ("new1", "new2"):
-        purged.send(body)
-    if not kind:
-        purged.send("late", DelaySeconds=60)
+    for body, more in (("new1", {}), ("new2", {}), *([] if kind else [("late", {"DelaySeconds": 60})])):
+        until(lambda: purged.is_taken(body, **more), 20, f"{body} isn't taken")
     purged.cq.tell()
     until(lambda: purged.counts() == [2, 0, int(not kind)], 20, "it isn't finished")
     found = purged.receive()
