@@ -147,16 +147,17 @@ def test_a_book_is_begun_anew_when_most_of_it_is_old(kept, passing):
         kept.call("TagQueue", QueueUrl="q", Tags={**large, "turn": str(turn)})
     assert kept.store_names() == {"1.fifo", "2.fifo", "3.fifo", "book1.fifo"}
 
-    def fill() -> None:
-        for turn in range(80, 120):
+    def fill(turns: int) -> None:
+        for turn in range(80, 80 + turns):
             kept.call("TagQueue", QueueUrl="q", Tags={"turn": str(turn)})
             pace(0.05)
 
     if passing is None:
-        fill()
+        fill(40)
     else:
         before = kept.cq.ends()
-        kept.cut_off(fill, '"queue":"book2', '"queue":"book1.fifo"}', passing=passing)
+        # It goes on until it is cut off.
+        kept.cut_off(partial(fill, 400), '"queue":"book2', '"queue":"book1.fifo"}', passing=passing)
         assert kept.cq.ends() > before
     until(lambda: "book1.fifo" not in kept.store_names(), 20, "the first book is there still")
     assert kept.store_names() == {"1.fifo", "2.fifo", "3.fifo", "book2.fifo"}

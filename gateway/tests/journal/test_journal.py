@@ -16,7 +16,7 @@ import pytest
 from operated import get, metric
 from rules import new_name
 from started import START, TOP, ByBoto3, ByJson, Refused, Started, command, environment, program, run
-from waiting import pace
+from waiting import pace, until
 
 LEAD = "hobbychair_clock_lead_seconds"
 
@@ -392,8 +392,8 @@ def test_a_clock_that_is_far_ahead_of_the_machines_is_told(tmp_path):
     assert gateway.stop() == 0
     gateway.set_clock(START + 60_000)
     gateway.start()
-    told = (tmp_path / "errors").read_text()
-    assert f"the clock is {(year - 60_000) // 1000} s ahead of this machine's" in told
+    told = f"the clock is {(year - 60_000) // 1000} s ahead of this machine's"
+    until(lambda: told in (tmp_path / "errors").read_text(), 20, "nobody says how far ahead the clock is")
     assert metric(get(gateway.said[0].split()[-1] + "/metrics")[1], LEAD) == (year - 60_000) // 1000
     assert gateway.stop() == 0
     gateway.set_clock(START + year - 59_000)
@@ -411,9 +411,9 @@ def test_no_line_of_the_log_has_a_body(tmp_path):
     with pytest.raises(Refused):
         call("SendMessage", QueueUrl=queue, MessageBody="nobody's business", MessageAttributes={
             "a": {"DataType": "String", "StringValue": "nor this"}})
+    until(lambda: "cq refused a send" in (tmp_path / "errors").read_text(), 20, "the log has no line of the refusal")
     gateway.kill()
     told = (tmp_path / "errors").read_text()
-    assert "cq refused a send" in told, told
     assert "business" not in told and "nor this" not in told
 
 

@@ -24,6 +24,9 @@ PORT = "9324"
 # What else a shell and its programs say: of jobs that were killed, and in logs.
 ASIDE = re.compile(r"(.*: line \d+: +\d+ (Killed|Terminated)\b.*|\d{4}-\d\d-\d\dT\S+ +(INFO|WARN|ERROR) .*|\S+ has ended \(.*|the cluster is down)$")
 
+# The end of what was started last.
+ENDS_LAST = re.compile(r"kill( -9)? \$!")
+
 pytestmark = pytest.mark.skipif(not has_etcd() or shutil.which("curl") is None, reason="etcd or curl isn't there")
 
 
@@ -97,7 +100,9 @@ def test_the_commands_of_the_tour_print_what_stands_there(tmp_path):
                 for wanted in printed:
                     assert any(matches(line, wanted) for line in lines), wanted
                 continue
-            shell.type(f"{command}; printf '\\n=%s=\\n' $?")
+            # A process that was killed has its port and its files for a moment.
+            waits = " && wait $!" if ENDS_LAST.fullmatch(command) else ""
+            shell.type(f"{command}{waits}; printf '\\n=%s=\\n' $?")
             said: list[str] = []
             for line in shell.lines():
                 if re.fullmatch(r"=\d+=", line):
