@@ -332,7 +332,7 @@ def test_books_have_an_order_whatever_their_names(tmp_path):
 def fill_book(kept: Named, queue: str, turn: int) -> None:
     """Has the book say so much that another one is begun, and something more then."""
     before = names_in_store(kept.journal)
-    latest, number = time.monotonic() + 60, 0
+    latest, number = time.monotonic() + 180, 0
     while names_in_store(kept.journal) == before:
         assert time.monotonic() < latest
         for _ in range(400):
