@@ -1,5 +1,6 @@
 """docs/TOUR.md: its commands are run, and print what stands there."""
 
+import itertools
 import os
 import re
 import shutil
@@ -15,17 +16,21 @@ import pytest
 from clusters import has_etcd
 from ports import free_ports
 from started import TOP, gateway_program, program
-from waiting import pace
+from waiting import pace, until
 
 PAGE = (TOP / "docs" / "TOUR.md").read_text()
 BLOCK = re.compile(r"^```(\w*)\n(.*?)^```$", re.DOTALL | re.MULTILINE)
 PORT = "9324"
 
-# What else a shell and its programs say: of jobs that were killed, and in logs.
-ASIDE = re.compile(r"(.*: line \d+: +\d+ (Killed|Terminated)\b.*|\d{4}-\d\d-\d\dT\S+ +(INFO|WARN|ERROR) .*|\S+ has ended \(.*|the cluster is down)$")
+# What else a shell and its programs say: of jobs that were killed, in logs, and on a busy machine.
+ASIDE = re.compile(r"(.*: line \d+: +\d+ (Killed|Terminated)\b.*|\d{4}-\d\d-\d\dT\S+ +(INFO|WARN|ERROR) .*|\S+ has ended \(.*"
+                   r"|the cluster is down|etcd is slow: .*)$")
 
 # The end of what was started last.
 ENDS_LAST = re.compile(r"kill( -9)? \$!")
+
+# What only looks. It may find a beat that is late.
+LOOK = "hobbychair cluster status "
 
 pytestmark = pytest.mark.skipif(not has_etcd() or shutil.which("curl") is None, reason="etcd or curl isn't there")
 
@@ -79,6 +84,13 @@ class Shell:
             self.pending += self.process.stdout.read() or b""
             pace(0.02)
 
+    def run(self, command: str) -> list[str]:
+        """What a command prints up to its end, without blank lines."""
+        # A process that was killed has its port and its files for a moment.
+        waits = " && wait $!" if ENDS_LAST.fullmatch(command) else ""
+        self.type(f"{command}{waits}; printf '\\n=%s=\\n' $?")
+        return [line for line in itertools.takewhile(lambda line: not re.fullmatch(r"=\d+=", line), self.lines()) if line]
+
     def end(self) -> None:
         os.killpg(self.process.pid, signal.SIGTERM)
         try:
@@ -100,18 +112,13 @@ def test_the_commands_of_the_tour_print_what_stands_there(tmp_path):
                 for wanted in printed:
                     assert any(matches(line, wanted) for line in lines), wanted
                 continue
-            # A process that was killed has its port and its files for a moment.
-            waits = " && wait $!" if ENDS_LAST.fullmatch(command) else ""
-            shell.type(f"{command}{waits}; printf '\\n=%s=\\n' $?")
             said: list[str] = []
-            for line in shell.lines():
-                if re.fullmatch(r"=\d+=", line):
-                    break
-                said.append(line)
-            # The end of a command's last line is that of its output, if it has none.
-            said = said if said[-1:] != [""] else said[:-1]
-            said = [line for line in said if line]
-            assert len(said) == len(printed) and all(map(matches, said, printed)), (command, said)
+
+            def is_as_told() -> bool:
+                said[:] = shell.run(command)
+                return len(said) == len(printed) and all(map(matches, said, printed))
+
+            until(is_as_told, 20 if command.startswith(LOOK) else 0, lambda: f"{command}: {said}")
     finally:
         shell.end()
 
