@@ -6,10 +6,11 @@ import signal
 import socket
 import subprocess
 from pathlib import Path
+from typing import Any
 
 import pytest
 
-from clusters import NAME, Cluster, Etcd, run
+from clusters import NAME, Cluster, Etcd, children_of, run
 from ports import free_ports
 from waiting import until
 from started import boto3_client, gateway_program, program
@@ -83,11 +84,15 @@ def test_a_number_is_used_once(tmp_path):
 def test_the_status_of_a_cluster(tmp_path):
     with Cluster(tmp_path) as cluster:
         words = ["cluster", "status", "--cluster", NAME, "--etcd", cluster.etcd.urls[0]]
-        until(lambda: all(server["beats"] for server in json.loads(run(*words, "--json").stdout)["servers"]), 10, "nobody beats")
-        status = json.loads(run(*words, "--json").stdout)
+        status: dict[str, Any] = {}
+
+        def is_settled() -> bool:
+            status.update(json.loads(run(*words, "--json").stdout))
+            all_beat = all(server["beats"] and server["is_full"] for server in status["servers"]) and status["waits"] is None
+            return all_beat and [server["hears"] for server in status["servers"]] == [[2, 3], [1, 3], [1, 2]]
+
+        until(is_settled, 30, lambda: f"not all beat and hear each other: {status}")
         assert [server["role"] for server in status["servers"]] == ["head", "middle", "tail"]
-        assert [server["hears"] for server in status["servers"]] == [[2, 3], [1, 3], [1, 2]]
-        assert all(server["is_full"] for server in status["servers"]) and status["waits"] is None
         rows = run(*words).stdout.splitlines()
         assert rows[1].split() == ["server", "address", "role", "count", "lag", "beats", "hears", "full", "acts", "fronts", "reach", "memory", "journal", "disk", "gateway"]
         assert rows[2].split()[0:3:2] == ["1", "head"]
@@ -112,11 +117,11 @@ def test_a_whole_cluster_goes_up_serves_and_goes_down(tmp_path):
     sqs.send_message(QueueUrl=queue, MessageBody="a")
     [message] = sqs.receive_message(QueueUrl=queue, WaitTimeSeconds=2)["Messages"]
     assert (message["Body"], queue) == ("a", f"{url}/000000000000/declared")
-    children = children_of(started.pid)
+    children = descendants_of(started.pid)
     assert len(children) >= 9
     started.send_signal(signal.SIGINT)
-    assert started.wait(10) == 0
-    until(lambda: not any(Path(f"/proc/{child}").exists() for child in children), 5, "processes are left")
+    assert started.wait(40) == 0
+    until(lambda: not any(Path(f"/proc/{child}").exists() for child in children), 20, "processes are left")
     assert (folder / "etcd").is_dir() and len(list((folder / "journals").iterdir())) == 2
     assert "was used before, and is left as it is" in refused("cluster", "up", "--folder", str(folder))
     assert (folder / "etcd").is_dir()
@@ -137,13 +142,10 @@ def test_a_node_does_not_begin_where_its_gateway_would_not(tmp_path):
             assert f"can't listen on 127.0.0.1:{port}" in refused("node", *which, *gateway)
         # Its number wasn't taken by any of these.
         node = cluster.start_node(1)
-        until(node.look, 10, "it doesn't begin")
+        until(node.look, 40, "it doesn't begin")
 
 
-def children_of(process: int) -> list[int]:
+def descendants_of(process: int) -> list[int]:
     """All that it started, and what those started."""
-    found = []
-    for one in Path(f"/proc/{process}/task").glob("*/children"):
-        for child in one.read_text().split():
-            found += [int(child), *children_of(int(child))]
-    return found
+    children = children_of(process)
+    return [*children, *(one for child in children for one in descendants_of(child))]

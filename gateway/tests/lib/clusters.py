@@ -13,6 +13,7 @@ import socket
 import subprocess
 import tempfile
 import threading
+import time
 import urllib.request
 from collections.abc import Callable
 from dataclasses import dataclass
@@ -23,12 +24,16 @@ from certificates import Certificates
 from cluster_network import Loopback, Network
 from ports import free_ports
 from started import gateway_program, program
-from waiting import pass_time, until
+from waiting import STEP, pace, pass_time, until
 
 NAME = "tested"
 
 # Where processes listen that have a machine of their own.
 CLIENTS_OF_ETCD, PEERS_OF_ETCD, NODES, GATEWAYS = 2379, 2380, 7001, 9000
+
+# A member of etcd has so long to answer before the next one is asked, and beside much other work all of them together have so
+# long, in seconds.
+TRY, PATIENCE = 0.7, 10.0
 
 
 def has_etcd() -> bool:
@@ -78,33 +83,42 @@ class Etcd:
         with open(self.room / f"etcd{place}.log", "ab") as log:
             return subprocess.Popen(self.network.at(machine, *words), stdin=subprocess.DEVNULL, stdout=log, stderr=log)
 
-    def ask(self, path: str, body: dict[str, Any], patience: float = 0.7) -> dict[str, Any]:
+    def ask(self, path: str, body: dict[str, Any], patience: float = PATIENCE) -> dict[str, Any]:
+        """The answer of a member. They are asked again for as long as `patience` says, and have longer each time."""
+        data, latest, seconds = json.dumps(body).encode(), time.monotonic() + patience, TRY
+        while (told := self.ask_each(path, data, seconds)) is None:
+            if time.monotonic() >= latest:
+                raise ConnectionError("no member of etcd answers")
+            seconds = min(2 * seconds, patience)
+            pace(STEP)
+        return told
+
+    def ask_each(self, path: str, data: bytes, seconds: float) -> dict[str, Any] | None:
         """The answer of the first member that gives one, from the one on that gave the last one."""
-        data = json.dumps(body).encode()
         first = self.answered_last
         for place in (*range(first, len(self.urls)), *range(first)):
             try:
                 request = urllib.request.Request(self.urls[place] + path, data, {"Content-Type": "application/json"})
-                with urllib.request.urlopen(request, timeout=patience, context=self.context) as answer:
+                with urllib.request.urlopen(request, timeout=seconds, context=self.context) as answer:
                     told = json.load(answer)
             except (OSError, http.client.HTTPException):
                 continue
             self.answered_last = place
             return told
-        raise ConnectionError("no member of etcd answers")
+        return None
 
     def answers(self) -> bool:
         try:
-            self.read("a")
+            self.read("a", patience=0)
             return True
         except ConnectionError:
             return False
 
-    def range(self, prefix: str, patience: float = 0.7) -> list[dict[str, str]]:
+    def range(self, prefix: str, patience: float = PATIENCE) -> list[dict[str, str]]:
         last = prefix[:-1] + chr(ord(prefix[-1]) + 1)
         return self.ask("/v3/kv/range", {"key": _digits(prefix), "range_end": _digits(last)}, patience).get("kvs", [])
 
-    def read(self, prefix: str, patience: float = 0.7) -> dict[str, str]:
+    def read(self, prefix: str, patience: float = PATIENCE) -> dict[str, str]:
         return {_text(found["key"]): _text(found.get("value", "")) for found in self.range(prefix, patience)}
 
     def rewritten(self, prefix: str) -> list[str]:
@@ -321,7 +335,7 @@ class Node:
 
     def logs(self, said: str) -> None:
         """Waits until its log has this: what a client sees may come first."""
-        until(lambda: said in self.log.read_text(), 10, f"not logged: {said}")
+        until(lambda: said in self.log.read_text(), 30, f"not logged: {said}")
 
     def children(self) -> list[int]:
         """The processes that it started."""
@@ -353,12 +367,11 @@ class Node:
 
 
 def children_of(process: int) -> list[int]:
-    """Those that its threads started, as far as these haven't ended."""
-    children: list[int] = []
-    for thread in Path(f"/proc/{process}/task").glob("*/children"):
+    """Those that its threads started. A thread that ends meanwhile leaves them to another one: then all are read anew."""
+    while True:
+        threads = list(Path(f"/proc/{process}/task").glob("*/children"))
         with contextlib.suppress(FileNotFoundError, ProcessLookupError):
-            children += map(int, thread.read_text().split())
-    return children
+            return [int(child) for thread in threads for child in thread.read_text().split()]
 
 
 def send(process: int, number: int) -> None:
@@ -441,7 +454,7 @@ class Cluster:
                         self.put_between(node)
             for _ in range(masters):
                 self.start_master()
-            until(lambda: all(node.look() for node in self.nodes), 20, "the nodes don't begin")
+            until(lambda: all(node.look() for node in self.nodes), 40, "the nodes don't begin")
         except BaseException:
             self.end()
             raise
@@ -501,14 +514,17 @@ class Cluster:
         return node
 
     def gateway_acts(self, server: int) -> bool:
-        """Whether the gateway of that server's node says that it works."""
-        beat = self.etcd.read(f"{self.root}/beat/{server:010}")
+        """Whether the gateway of that server's node says that it works. Where etcd doesn't answer now, that isn't known."""
+        try:
+            beat = self.etcd.read(f"{self.root}/beat/{server:010}")
+        except ConnectionError:
+            return False
         return any(json.loads(one).get("gateway") == "acts" for one in beat.values())
 
     def put_between(self, node: Node, what: str = "address") -> Proxy:
         """From now on others find a proxy where the node is registered, or its `gateway`: their connections can be broken. Where the
         gateway has ended, nobody is there."""
-        until(node.look, 20, "the node doesn't begin")
+        until(node.look, 40, "the node doesn't begin")
         key = f"{self.root}/node/{node.server:010}"
         registration = json.loads(self.etcd.read(key)[key])
         proxy = Proxy(f"http://127.0.0.1:{node.port if what == 'address' else node.gateway_port}")
@@ -533,7 +549,7 @@ class Cluster:
     def chain(self) -> dict[str, Any]:
         """The chain as etcd has it, or as it had it when it last answered."""
         try:
-            self.last = json.loads(self.etcd.read(f"{self.root}/master/chain")[f"{self.root}/master/chain"])
+            self.last = json.loads(self.etcd.read(f"{self.root}/master/chain", patience=0)[f"{self.root}/master/chain"])
         except ConnectionError:
             pass
         return self.last
