@@ -4,8 +4,10 @@ from __future__ import annotations
 
 import hashlib
 import json
+import select
 import socket
 import struct
+import threading
 import time
 from collections.abc import Iterable
 from dataclasses import dataclass, field
@@ -83,6 +85,8 @@ class Calls:
         # Of which calls frames came, in their order.
         self.order: list[int] = []
         self.times: list[int] = []
+        # Held by who says something.
+        self.saying = threading.Lock()
 
     def __enter__(self) -> Calls:
         return self
@@ -92,7 +96,8 @@ class Calls:
         self.socket.close()
 
     def tell(self, data: bytes) -> None:
-        self.socket.sendall(data)
+        with self.saying:
+            self.socket.sendall(data)
 
     def read(self) -> int:
         """Reads a frame, and tells its kind; -1 at the end of the connection. Each answer comes once, and each piece behind it."""
@@ -119,10 +124,25 @@ class Calls:
         return kind
 
     def answer(self, number: int) -> Answer:
-        """The answer to a call once it is whole."""
+        """The answer to a call once it is whole. However long that takes, this front is there."""
         while not (number in self.answers and self.answers[number].is_whole):
-            assert self.read() >= 0, f"the connection ends before {number} is answered"
+            kind = self.read()
+            assert kind >= 0, f"the connection ends before {number} is answered"
+            if kind == TIME:
+                self.say_alive()
         return self.answers[number]
+
+    def say_alive(self) -> None:
+        """As a front does twice a second, unless it is saying something else or what it said is on its way still."""
+        if self.saying.acquire(blocking=False):
+            try:
+                if select.select([], [self.socket], [], 0)[1]:
+                    self.socket.sendall(frame(ALIVE, b""))
+            except ConnectionError:
+                # What came before its end is read still.
+                pass
+            finally:
+                self.saying.release()
 
     def ask(self, number: int, action: str, name: str = "", is_again: bool = False, **members: Any) -> Answer:
         self.tell(asking(number, action, name, is_again, **members))

@@ -31,10 +31,15 @@ def figure(gateway: Started, row: str) -> float:
     return metric(get(admin_url(gateway) + "/metrics")[1], row)
 
 
+def count_polls(admin: str) -> float:
+    """How many receives wait for a message at the gateway that tells its figures at that URL."""
+    return metric(get(f"{admin}/metrics")[1], "hobbychair_long_polls")
+
+
 def polls(gateway: Started | str, count: int) -> None:
     """Waits until so many receives wait for a message at a gateway, or at the one that tells its figures at that URL."""
     admin = gateway if isinstance(gateway, str) else admin_url(gateway)
-    until(lambda: metric(get(f"{admin}/metrics")[1], "hobbychair_long_polls") == count, 20, f"not {count} receives wait")
+    until(lambda: count_polls(admin) == count, 20, f"not {count} receives wait")
 
 
 def connections(gateway: Started, count: int) -> None:
