@@ -17,10 +17,10 @@ def test_a_port_that_opens_and_closes_costs_no_head(machines):
         pace(2)
         rules.ends()
         pace(2)
-    until(lambda: asking.longest_silence(time.monotonic() - 1) < 1, 20, "nobody is answered")
+    until(lambda: asking.longest_silence(time.monotonic() - 1) < 1, 40, "nobody is answered")
     asking.end()
     assert machines.cluster.detected() == []
-    assert asking.longest_silence(begun) < 10
+    assert asking.longest_silence(begun) < 15
 
 
 def test_a_head_stays_as_long_as_one_front_reaches_its_gateway(machines):
@@ -33,15 +33,15 @@ def test_a_head_stays_as_long_as_one_front_reaches_its_gateway(machines):
 
     first, second = cut(0, 1), cut(1, 2, 3)
     assert first.begins() and second.begins()
-    until(lambda: reached(machines.cluster) == {1: 1, 2: 1, 3: 1}, 20, "they reach others")
+    until(lambda: reached(machines.cluster) == {1: 1, 2: 1, 3: 1}, 40, "they reach others")
     holds(lambda: machines.cluster.detected() == [], REACHING + 7, "the head goes")
     # The second one is cut off by itself, and then nobody reaches the head's.
     third = cut(1, 1)
     assert third.begins()
-    until(lambda: machines.cluster.chain()["members"] == [2, 3], 20, "the head stays")
+    until(lambda: machines.cluster.chain()["members"] == [2, 3], 40, "the head stays")
     for rules in (first, second, third):
         rules.ends()
-    until(lambda: machines.cluster.gateway_acts(2), 10, "no gateway acts")
+    until(lambda: machines.cluster.gateway_acts(2), 30, "no gateway acts")
 
 
 def test_a_front_that_is_cut_off_by_itself_costs_no_head(machines):
@@ -50,7 +50,7 @@ def test_a_front_that_is_cut_off_by_itself_costs_no_head(machines):
     ports = [("OUTPUT", "--protocol", "tcp", "--destination-port", str(GATEWAYS + number)) for number in (1, 2, 3)]
     rules = Rules(network, layout.of_front(0), ports)
     assert rules.begins()
-    until(lambda: reached(machines.cluster) == {1: 0, 2: 0, 3: 0}, 20, "somebody is reached")
+    until(lambda: reached(machines.cluster) == {1: 0, 2: 0, 3: 0}, 40, "somebody is reached")
     holds(lambda: machines.cluster.detected() == [], REACHING + 7, "the head goes")
     rules.ends()
     # Where it reaches gateways and not the head's node, that one serves.
@@ -59,7 +59,7 @@ def test_a_front_that_is_cut_off_by_itself_costs_no_head(machines):
     assert node.begins()
     asking = Asking(machines)
     holds(lambda: machines.cluster.detected() == [], REACHING + 7, "the head goes")
-    until(lambda: len(asking.answers) > 10, 10, "nobody is answered")
+    until(lambda: len(asking.answers) > 10, 30, "nobody is answered")
     asking.end()
     node.ends()
     assert machines.cluster.detected() == []

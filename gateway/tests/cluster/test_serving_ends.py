@@ -8,12 +8,12 @@ from cluster_serving import BEGINNING, Configured, end_gateway, ending, never_be
 from waiting import pace, until
 
 
-@pytest.mark.parametrize(("after", "most"), [(0, 20), (4000, 30)], ids=["at once", "each four seconds"])
+@pytest.mark.parametrize(("after", "most"), [(0, 40), (4000, 50)], ids=["at once", "each four seconds"])
 def test_a_head_whose_gateways_end_again_and_again_is_given_up(tmp_path, after, most):
     """As where each crashes once it has read the store."""
     with ending(tmp_path, size=4) as one:
         one.served.queue("q")
-        until(lambda: one.ready()[3] is True, 10, "it doesn't stand ready")
+        until(lambda: one.ready()[3] is True, 40, "it doesn't stand ready")
         never_begins(one.cluster, 2, after)
         begun = time.monotonic()
         one.cluster.kill(1)
@@ -27,7 +27,7 @@ def test_a_head_whose_gateways_end_again_and_again_is_given_up(tmp_path, after, 
 def test_a_head_whose_gateway_serves_between_its_ends_stays(tmp_path):
     with Configured(tmp_path) as one:
         one.served.queue("q")
-        until(lambda: one.ready() == {server: True for server in (1, 2, 3)}, 10, "not all stand ready")
+        until(lambda: one.ready() == {server: True for server in (1, 2, 3)}, 40, "not all stand ready")
         send, answered = one.sends(), 0
         for _ in range(4):
             begun = time.monotonic()
@@ -35,6 +35,6 @@ def test_a_head_whose_gateway_serves_between_its_ends_stays(tmp_path):
                 answered += send()
                 pace(0.1)
             end_gateway(one.cluster, 1)
-        until(send, 20, "nobody is answered")
+        until(send, 40, "nobody is answered")
         print(f"{answered} answers")
         assert answered > 40 and one.cluster.detected() == []

@@ -2,6 +2,7 @@
 
 import http.client
 import signal
+import time
 
 from cluster_serving import Configured
 from cluster_work import Served
@@ -15,16 +16,16 @@ def test_one_wrong_file_of_keys_on_all_machines_loses_no_member(tmp_path):
         one.served.queue("q")
         for number in (1, 2, 3, 4):
             one.spoil(number)
-        until(lambda: not any(one.ready().values()), 15, "nobody says that they are spoilt")
+        until(lambda: not any(one.ready().values()), 40, "nobody says that they are spoilt")
         one.cluster.kill(1)
-        until(lambda: "and no other member's stands ready" in (one.status()["waits"] or ""), 20, "the status doesn't say why")
+        until(lambda: "and no other member's stands ready" in (one.status()["waits"] or ""), 40, "the status doesn't say why")
         # Longer than two heads are apart.
         holds(lambda: one.cluster.chain()["members"] == [2, 3, 4], 62, "the head goes", 0.5)
         assert one.cluster.detected() == [1]
         for number in (1, 2, 3, 4):
             one.mend(number)
-        until(one.sends(), 20, "nobody is answered")
-        until(lambda: one.status()["waits"] is None, 10, "the status says that the chain waits")
+        until(one.sends(), 40, "nobody is answered")
+        until(lambda: one.status()["waits"] is None, 30, "the status says that the chain waits")
         assert one.cluster.detected() == [1]
 
 
@@ -53,25 +54,26 @@ def test_a_front_is_not_well_where_nobody_answers_it_though_nobody_asks(tmp_path
     cluster, health = served.cluster, None
     try:
         health = Health(cluster)
-        until(lambda: health.get() == (200, "serving by the gateway of server 1\n"), 10, "it isn't well")
+        until(lambda: health.get() == (200, "serving by the gateway of server 1\n"), 30, "it isn't well")
         # It stays so while the head changes as fast as usual, and while etcd is away.
         cluster.etcd.signal(signal.SIGSTOP)
         holds(health.is_well, 5, "it isn't well without etcd")
         cluster.etcd.signal(signal.SIGCONT)
         for node in cluster.nodes:
             node.stop()
-        took = time_until(lambda: not health.is_well(), 15, "it is well")
+        took = time_until(lambda: not health.is_well(), 30, "it is well")
         print(f"not well behind {took:.1f} s: {health.get()[1]}")
         assert health.get()[1].startswith("waiting: the gateway of server 1 doesn't answer: ")
         for node in cluster.nodes:
             node.go_on()
-        until(health.is_well, 20, "it isn't well again")
+        until(health.is_well, 40, "it isn't well again")
+        begun = time.monotonic()
         for node in cluster.nodes:
             node.kill()
-        took = time_until(lambda: not health.is_well(), 15, "it is well with all nodes killed")
-        assert 2 < took and health.get()[1].startswith("waiting: the gateway of server 1 doesn't answer: ")
+        until(lambda: not health.is_well(), 30, "it is well with all nodes killed")
+        assert time.monotonic() - begun > 2 and health.get()[1].startswith("waiting: the gateway of server 1 doesn't answer: ")
         cluster.etcd.kill()
-        until(lambda: "neither the gateway of server 1 answers (" in health.get()[1], 10, "it doesn't say that etcd is away")
+        until(lambda: "neither the gateway of server 1 answers (" in health.get()[1], 30, "it doesn't say that etcd is away")
         assert health.get()[0] == 503
     finally:
         print(cluster.said())
