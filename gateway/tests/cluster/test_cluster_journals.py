@@ -25,7 +25,7 @@ def test_journals_have_all_that_was_acknowledged_when_all_nodes_are_killed(tmp_p
     room = tmp_path / "journals"
     with Cluster(tmp_path, words=words(room, *KINDS[kind])) as cluster:
         users = Users(cluster, 1, think=0.002)
-        until(lambda: len(users.records) > 500, 20, "users aren't answered")
+        until(lambda: len(users.records) > 500, 60, "users aren't answered")
         status = json.loads(run("cluster", "status", *cluster.which("master"), "--json").stdout)
         assert [server["journal"] for server in status["servers"]] == [kind] * 3
         kill_all(cluster)
@@ -46,23 +46,31 @@ def test_a_journal_ends_by_copies_of_the_store_and_one_that_joins_begins_with_on
     cluster, users = start(words=words(room, "--journal-size", "20KiB"))
 
     def copies(server: int) -> list[str]:
-        return [one.name for one in folder_of(cluster, server, room).glob("store.??????")]
+        return sorted(one.name for one in folder_of(cluster, server, room).glob("store.??????"))
 
-    until(lambda: all(copies(server) and "store.000002" not in copies(server) for server in (1, 2, 3)), 30, "there are no second copies")
+    def is_tidy(server: int) -> bool:
+        """Whether there is one copy, nothing ahead of it, and no other one is being made."""
+        found, folder = copies(server), folder_of(cluster, server, room)
+        if len(found) != 1 or list(folder.glob("store.*.new")):
+            return False
+        return all(one.name >= found[0].replace("store", "entries") for one in folder.glob("entries.??????"))
+
+    until(lambda: all(copies(server) and "store.000002" not in copies(server) for server in (1, 2, 3)), 60, "there are no second copies")
     cluster.start_node()
-    until(cluster.settles([1, 2, 3, 4]), 20, "it doesn't become a member")
-    assert copies(4)
+    until(cluster.settles([1, 2, 3, 4]), 40, "it doesn't become a member")
+    until(lambda: copies(4), 10, "it doesn't begin with one")
     answered(users)
     cluster.kill(1)
-    until(cluster.settles([2, 3, 4]), 10, "it isn't detected")
+    until(cluster.settles([2, 3, 4]), 30, "it isn't detected")
     answered(users)
     users.stop()
+    # What was ahead of a copy goes a moment behind it. One that is killed may leave it.
+    until(lambda: all(is_tidy(server) for server in (2, 3, 4)), 20, "what was ahead of a copy stays")
+    assert len(copies(1)) in (1, 2)
     for node in (node for node in cluster.nodes if node.lives()):
         node.stop()
     for server in (1, 2, 3, 4):
-        journal = Journal(folder_of(cluster, server, room))
-        assert journal.base > 0 and len(copies(server)) == 1
-        assert all(one.name >= copies(server)[0].replace("store", "entries") for one in journal.segments())
+        assert Journal(folder_of(cluster, server, room)).base > 0
     assert Journal(folder_of(cluster, 4, room)).chain["members"] == [2, 3, 4]
     check_journals(cluster, room)
 
@@ -74,11 +82,11 @@ def test_a_node_whose_disk_is_full_is_given_up_and_the_others_go_on(small_disk, 
     node = cluster.node(2)
     node.may_fail = True
     fill(full)
-    until(lambda: not node.lives(), 20, "it isn't given up")
+    until(lambda: not node.lives(), 40, "it isn't given up")
     assert node.process.returncode == 1
     assert "its journal can't be written, and others go on without it" in node.log.read_text()
     assert "No space left on device" in node.log.read_text()
-    until(cluster.settles([1, 3]), 10, "the chain doesn't go on")
+    until(cluster.settles([1, 3]), 30, "the chain doesn't go on")
     answered(users)
 
 
@@ -92,7 +100,7 @@ def test_the_last_full_server_waits_for_room_on_its_disk(small_disk, start):
     before = len(users.records)
     words_of_status = ["cluster", "status", *cluster.which("master")]
     why = "server 1 is condemned (its journal can't be written), and no other member is known to have all that was acknowledged"
-    until(lambda: f"the chain waits: {why}" in run(*words_of_status).stdout, 10, "the status says nothing")
+    until(lambda: f"the chain waits: {why}" in run(*words_of_status).stdout, 30, "the status says nothing")
     assert node.lives() and len(users.records) <= before + 8
     count = Journal(folder_of(cluster, 1, room)).count()
     assert all(one.length <= count for one in users.records)
@@ -118,10 +126,11 @@ def test_a_node_whose_disk_hangs_is_given_up_and_the_others_go_on(hanging, start
     node = cluster.node(2)
     node.may_fail = True
     (folder_of(cluster, 2, room) / "hang").touch()
-    assert time_until(lambda: not node.lives(), 20, "it isn't given up") < 4.5
+    # One that others hear is given up behind ten seconds, whatever its disk does.
+    assert time_until(lambda: not node.lives(), 40, "it isn't given up") < 9
     assert node.process.returncode == 1
     node.logs("the disk doesn't end a write")
-    until(cluster.settles([1, 3]), 10, "the chain doesn't go on")
+    until(cluster.settles([1, 3]), 30, "the chain doesn't go on")
     answered(users)
 
 
@@ -131,9 +140,16 @@ def test_nothing_is_answered_that_is_not_on_the_disk(hanging, start, tmp_path):
     folder = folder_of(cluster, 1, room)
     (folder / "hang").touch()
     # By then the disk hangs: what all users ask is written, and nobody is answered.
-    until(lambda: len(users.open) == users.count and Journal(folder).count() > users.records[-1].length, 10, "it doesn't hang")
+    until(lambda: len(users.open) == users.count and Journal(folder).count() > users.records[-1].length, 20, "it doesn't hang")
+
+    def is_somebody_answered() -> bool:
+        before = len(users.records)
+        return comes(lambda: len(users.records) > before, 0.3)
+
+    # What a sync that had begun by then lets out is on its way for a moment.
+    until(lambda: not is_somebody_answered(), 20, "it doesn't hang")
     before = len(users.records)
-    holds(lambda: len(users.records) <= before + 1, 1, "somebody is answered")
+    holds(lambda: len(users.records) == before, 1, "somebody is answered")
     (folder / "hang").unlink()
     answered(users)
 
@@ -169,7 +185,7 @@ def test_nobody_is_given_up_where_all_disks_hang_and_all_goes_on_with_them(hangi
     for hang in hangs:
         hang.unlink()
     answered(users)
-    until(cluster.settles([1, 2, 3]), 10, lambda: f"the chain isn't what it was: {cluster.chain()}")
+    until(cluster.settles([1, 2, 3]), 30, lambda: f"the chain isn't what it was: {cluster.chain()}")
     assert cluster.detected() == []
 
 
@@ -215,5 +231,5 @@ def test_a_journal_that_cannot_be_begun_ends_the_node_before_it_takes_a_number(t
         assert "--journal" in run(*node, "--durable").stderr
         assert cluster.etcd.read(f"{cluster.root}/node/") == {}
         cluster.words = words(tmp_path / "deep" / "journals")
-        until(cluster.start_node(1).look, 10, "it doesn't begin")
+        until(cluster.start_node(1).look, 40, "it doesn't begin")
         assert folder_of(cluster, 1, tmp_path / "deep" / "journals").is_dir()

@@ -147,8 +147,8 @@ def begin_again(cluster: Cluster, journal: Path, masters: int = 1) -> Node:
     node = cluster.start_node(1)
     for _ in range(masters):
         cluster.start_master()
-    until(node.look, 20, "the node doesn't begin")
-    until(lambda: acts(cluster, 1), 20, "its server doesn't act")
+    until(node.look, 40, "the node doesn't begin")
+    until(lambda: acts(cluster, 1), 40, "its server doesn't act")
     return node
 
 
