@@ -30,7 +30,7 @@ def start(tmp_path: Path) -> Iterator[Callable[..., tuple[Cluster, Users]]]:
         cluster = Cluster(tmp_path, **how)
         users = Users(cluster, SEED)
         begun.append((cluster, users))
-        until(lambda: len(users.records) > 50, 15, "users aren't answered")
+        until(lambda: len(users.records) > 50, 40, "users aren't answered")
         pass_time(1.5, "by then each candidate has seen each beat change")
         return cluster, users
 
@@ -60,7 +60,7 @@ def machines(tmp_path, request) -> Iterator[Served]:
         how = {"network": network, "layout": layout, "certificates": Certificates(tmp_path / "certificates", NAME),
                "everywhere": getattr(request, "param", False)}
         with network.entered(layout.of_clients()), Served(tmp_path, fronts=2, **how) as served:
-            until(lambda: reached(served.cluster) == {1: 2, 2: 2, 3: 2}, 20, "not all gateways' ports are reached")
+            until(lambda: reached(served.cluster) == {1: 2, 2: 2, 3: 2}, 40, "not all gateways' ports are reached")
             yield served
     finally:
         network.end()

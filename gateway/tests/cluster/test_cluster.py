@@ -25,7 +25,7 @@ def send_large(cluster: Cluster, count: int) -> None:
         one.sendall(greeting(cluster, 2**32 - 1))
         for number in range(count):
             one.sendall(batch(1, [request(7000 + number, 1, send | {"dedup": f"large-{number}"})]))
-        until(lambda: cluster_count(cluster) >= before + count, 20, "they aren't taken")
+        until(lambda: cluster_count(cluster) >= before + count, 40, "they aren't taken")
 
 
 def cluster_count(cluster: Cluster) -> int:
@@ -43,11 +43,12 @@ def test_a_server_is_lost(start, lost):
     begun = time.monotonic()
     cluster.kill(lost)
     rest = [server for server in (1, 2, 3) if server != lost]
-    until(cluster.settles(rest), 10, "it isn't detected")
+    until(cluster.settles(rest), 30, "it isn't detected")
     answered(users)
     silence = users.longest_silence(begun - 0.5)
     print(f"{silence:.2f} s without an answer")
-    assert silence < 5
+    # One that others still hear is given up behind ten seconds.
+    assert silence < 9
 
 
 def test_a_node_joins(start):
@@ -55,13 +56,13 @@ def test_a_node_joins(start):
     send_large(cluster, 60)
     begun = time.monotonic()
     cluster.start_node()
-    until(cluster.settles([1, 2, 3, 4]), 10, "it doesn't become a member")
+    until(cluster.settles([1, 2, 3, 4]), 30, "it doesn't become a member")
     answered(users)
-    assert users.longest_silence(begun) < 2
+    assert users.longest_silence(begun) < 5
     # All others are lost, so that all depends on what it was fed with.
     for server in (1, 2, 3):
         cluster.kill(server)
-    until(cluster.settles([4]), 15, "they aren't detected")
+    until(cluster.settles([4]), 40, "they aren't detected")
     answered(users)
 
 
@@ -82,11 +83,12 @@ def test_servers_are_refused_memory_now_and_then(start, tmp_path):
     cluster, users = start(programs=refusing)
     for server in (4, 5):
         cluster.start_node()
-        until(cluster.settles(list(range(1, server + 1))), 15, "it doesn't become a member")
+        until(cluster.settles(list(range(1, server + 1))), 40, "it doesn't become a member")
     cluster.kill(1)
-    until(cluster.settles([2, 3, 4, 5]), 10, "it isn't detected")
+    until(cluster.settles([2, 3, 4, 5]), 30, "it isn't detected")
     answered(users)
-    assert sum("a call fails" in log.read_text() for log in tmp_path.glob("node*.log")) > 2
+    # Those that are asked less come to it later.
+    until(lambda: sum("a call fails" in log.read_text() for log in tmp_path.glob("node*.log")) > 2, 30, "few are refused memory")
 
 
 def test_a_node_whose_server_ends_ends(start):
@@ -94,9 +96,9 @@ def test_a_node_whose_server_ends_ends(start):
     node = cluster.node(2)
     node.may_fail = True
     os.kill(node.child(), signal.SIGKILL)
-    until(lambda: not node.lives(), 5, "it goes on without its server")
+    until(lambda: not node.lives(), 20, "it goes on without its server")
     assert node.process.returncode == 1 and "cq server is gone: it ended by signal 9" in node.log.read_text()
-    until(cluster.settles([1, 3]), 10, "it isn't detected")
+    until(cluster.settles([1, 3]), 30, "it isn't detected")
     answered(users)
 
 
@@ -106,9 +108,9 @@ def test_a_server_that_is_detected_while_it_lives_ends(start):
     node = cluster.node(2)
     node.proxy.cut()
     cluster.condemn(2)
-    until(lambda: not node.lives(), 5, "nobody tells it")
+    until(lambda: not node.lives(), 20, "nobody tells it")
     assert "the master's log says that it is lost" in node.log.read_text()
-    until(cluster.settles([1, 3]), 5, "the chain doesn't go on")
+    until(cluster.settles([1, 3]), 30, "the chain doesn't go on")
     answered(users)
 
 
@@ -116,9 +118,9 @@ def test_the_last_full_member_is_kept(start):
     """The chain waits rather than to go on without what was acknowledged."""
     cluster, users = start(size=2)
     cluster.kill(1)
-    until(cluster.settles([2]), 10, "it isn't detected")
+    until(cluster.settles([2]), 30, "it isn't detected")
     answered(users)
     cluster.condemn(2)
-    until(lambda: not cluster.etcd.read(f"{cluster.root}/master/condemned/"), 3, "nobody undoes it")
+    until(lambda: not cluster.etcd.read(f"{cluster.root}/master/condemned/"), 20, "nobody undoes it")
     holds(lambda: cluster.node(2).lives() and cluster.chain()["members"] == [2], 0.5, "the last one goes")
     answered(users)

@@ -115,7 +115,7 @@ class Served:
         self.cluster = Cluster(room, gateways=True, certificates=certificates)
         try:
             self.front = StartedFront(*self.cluster.which("front"))
-            until(lambda: self.cluster.gateway_acts(1), 20, "no gateway acts")
+            until(lambda: self.cluster.gateway_acts(1), 60, "no gateway acts")
         except BaseException:
             print(self.cluster.said())
             self.cluster.end()
@@ -154,7 +154,7 @@ def logged(log: Path, said: str) -> contextlib.AbstractContextManager[None]:
     def looked_for() -> Iterator[None]:
         before = log.stat().st_size
         yield
-        until(lambda: said in log.read_bytes()[before:].decode(), 10, f"not logged: {said}")
+        until(lambda: said in log.read_bytes()[before:].decode(), 30, f"not logged: {said}")
     return looked_for()
 
 
@@ -275,7 +275,7 @@ def test_a_gateway_shows_what_was_registered_whatever_stands_in_the_files(served
     try:
         old = node.gateway()
         os.kill(old, signal.SIGKILL)
-        until(lambda: node.gateway() not in (None, old) and served.cluster.gateway_acts(1), 20, "no gateway acts")
+        until(lambda: node.gateway() not in (None, old) and served.cluster.gateway_acts(1), 40, "no gateway acts")
         served.goes_on()
     finally:
         for end, data in kept.items():
@@ -292,11 +292,11 @@ def test_who_is_asked_by_a_front_shows_what_was_registered(served, certificates)
         cluster.etcd.write(key, json.dumps(was | {"gateway": f"127.0.0.1:{port}"}))
         front = subprocess.Popen(started.command("front", "--port", "0", *cluster.which("front")), stdout=out, stderr=out)
         try:
-            until(lambda: "listening on " in log.read_text(), 10, "the front doesn't begin")
+            until(lambda: "listening on " in log.read_text(), 30, "the front doesn't begin")
             url = next(line.split()[-1] for line in log.read_text().splitlines() if line.startswith("listening on "))
             with contextlib.suppress(OSError):
                 urllib.request.urlopen(url, b"Action=ListQueues", timeout=1)
-            until(lambda: "it shows another certificate than was registered" in log.read_text(), 10, "not logged")
+            until(lambda: "it shows another certificate than was registered" in log.read_text(), 30, "not logged")
             assert heard == [], "it was told something"
         finally:
             front.kill()
@@ -341,7 +341,8 @@ class Attack:
 def quick(what) -> None:
     begun = time.monotonic()
     assert what()
-    assert time.monotonic() - begun < 1, "a stranger holds others up"
+    # To verify such a chain would take far longer.
+    assert time.monotonic() - begun < 5, "a stranger holds others up"
 
 
 def test_a_chain_of_many_certificates_holds_no_node_up(served, certificates, strange):
@@ -395,19 +396,19 @@ def test_nor_whoever_is_shown_it_by_a_false_etcd(served, certificates, strange, 
         process = subprocess.Popen([gateway_program(), *words], env=environment, stdout=out, stderr=out)
         try:
             begun = "requests go to the gateway of the head" if role == "front" else "a candidate for the master begins"
-            until(lambda: begun in log.read_text(), 10, "it doesn't begin")
+            until(lambda: begun in log.read_text(), 30, "it doesn't begin")
             used = processor_time(process.pid)
             proxy.cut()
             # (What a candidate writes of other things may name the same reason sooner.)
-            until(lambda: any("no contact with etcd" in line and TOO_MANY in line for line in log.read_text().splitlines()), 5,
+            until(lambda: any("no contact with etcd" in line and TOO_MANY in line for line in log.read_text().splitlines()), 20,
                  "not logged")
             if role == "front":
-                until(lambda: "listening on " in log.read_text(), 5, "it doesn't listen")
+                until(lambda: "listening on " in log.read_text(), 20, "it doesn't listen")
                 url = next(line.split()[-1] for line in log.read_text().splitlines() if line.startswith("listening on "))
                 for _ in range(20):
                     quick(lambda: urllib.request.urlopen(url, b"Action=ListQueues", timeout=10).status == 200)
             proxy.mend()
-            until(lambda: "in contact with etcd again" in log.read_text(), 5, "it doesn't find the good one again")
+            until(lambda: "in contact with etcd again" in log.read_text(), 20, "it doesn't find the good one again")
             assert processor_time(process.pid) - used < 2
         finally:
             process.kill()
@@ -422,9 +423,9 @@ def test_nor_a_front_that_is_shown_it_by_a_false_node(served, certificates, stra
         cluster.etcd.write(key, json.dumps(was | {"address": f"127.0.0.1:{port}"}))
         front = subprocess.Popen(started.command("front", "--port", "0", *cluster.which("front")), stdout=out, stderr=out)
         try:
-            until(lambda: "listening on " in log.read_text(), 10, "the front doesn't begin")
+            until(lambda: "listening on " in log.read_text(), 30, "the front doesn't begin")
             url = next(line.split()[-1] for line in log.read_text().splitlines() if line.startswith("listening on "))
-            until(lambda: f"no contact with a server server=2 error={TOO_MANY}" in log.read_text(), 10, "not logged")
+            until(lambda: f"no contact with a server server=2 error={TOO_MANY}" in log.read_text(), 30, "not logged")
             for _ in range(20):
                 quick(lambda: urllib.request.urlopen(url, b"Action=ListQueues", timeout=10).status == 200)
         finally:
@@ -445,7 +446,7 @@ def test_nobody_takes_the_place_of_a_node_that_is_gone(tmp_path, certificates):
     cluster = Cluster(tmp_path, certificates=certificates)
     users = Users(cluster, 1)
     try:
-        until(lambda: len(users.records) > 50, 10, "users aren't answered")
+        until(lambda: len(users.records) > 50, 40, "users aren't answered")
         cluster.stop_masters()
         port = cluster.node(3).port
         cluster.kill(3)
@@ -453,13 +454,13 @@ def test_nobody_takes_the_place_of_a_node_that_is_gone(tmp_path, certificates):
             for server in (1, 2):
                 cluster.node(server).logs("a link is down to=3 error=it shows another certificate than was registered")
             cluster.masters_go_on()
-            until(cluster.settles([1, 2]), 20, "it isn't detected")
+            until(cluster.settles([1, 2]), 40, "it isn't detected")
         cluster.start_node()
-        until(cluster.settles([1, 2, 4]), 20, "it doesn't join")
+        until(cluster.settles([1, 2, 4]), 40, "it doesn't join")
         answers = len(users.records)
-        until(lambda: len(users.records) > answers + 50, 10, "users aren't answered")
+        until(lambda: len(users.records) > answers + 50, 40, "users aren't answered")
         cluster.kill(1)
-        until(cluster.settles([2, 4]), 20, "it isn't detected")
+        until(cluster.settles([2, 4]), 40, "it isn't detected")
         users.stop()
         cluster.stop_masters()
         # The nodes are stopped by this.
@@ -470,7 +471,7 @@ def test_nobody_takes_the_place_of_a_node_that_is_gone(tmp_path, certificates):
         cluster.kill(4)
         with Stranger(port, certificates.server("node4"), lambda _: welcome([2])):
             cluster.node(2).go_on()
-            until(lambda: not cluster.node(2).lives(), 10, "who has the node's certificate isn't believed")
+            until(lambda: not cluster.node(2).lives(), 30, "who has the node's certificate isn't believed")
     except BaseException:
         print(cluster.said())
         raise
@@ -548,4 +549,4 @@ def test_a_whole_cluster_goes_up_with_certificates(tmp_path):
                 node.kill()
     finally:
         up.send_signal(signal.SIGINT)
-        assert up.wait(10) == 0
+        assert up.wait(40) == 0

@@ -5,6 +5,7 @@ import http.client
 import itertools
 import json
 import os
+import re
 import signal
 import time
 import urllib.error
@@ -55,8 +56,9 @@ def test_where_etcd_answers_in_460_ms_a_loss_is_noticed(start):
     took = time_until(cluster.settles([2, 3]), 60, "it isn't detected")
     print(f"the chain goes on behind {took:.1f} s")
     answered(users, 30)
-    status = status_of(cluster)
-    assert "etcd is slow: an answer took " in status and "so a server is silent after " in status, status
+    # A server that doesn't beat while the command looks isn't asked how slow etcd is.
+    slowness = re.compile("etcd is slow: an answer took .* so a server is silent after ")
+    until(lambda: slowness.search(status_of(cluster)), 20, lambda: f"the status doesn't say it: {status_of(cluster)}")
     assert cluster.detected() == [1]
 
 
@@ -245,7 +247,13 @@ def test_what_was_overwritten_within_an_hour_stays(growing):
         one.cluster.start_master(place)
     until(lambda: one.is_compacted(revision - 2), 20, "etcd isn't compacted")
     assert not one.is_compacted(revision) and json.loads(one.etcd.read(key)[key])["revision"] > revision
-    holds(lambda: sum(one.log(place).count("etcd is compacted") for place in (1, 2)) == 1, 2, "it is compacted twice, or not told")
+
+    def told() -> int:
+        return sum(one.log(place).count("etcd is compacted") for place in (1, 2))
+
+    # Etcd has done it a moment before it is told.
+    until(told, 20, "it isn't told")
+    holds(lambda: told() == 1, 2, "it is compacted twice")
 
 
 def test_a_full_etcd_is_told_with_what_to_do(growing):

