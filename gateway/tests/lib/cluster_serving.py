@@ -1,8 +1,6 @@
 """Clusters whose gateways can be kept from serving, and what tells whether the head was given up for that."""
 
-import contextlib
 import json
-import os
 import signal
 import threading
 import time
@@ -14,10 +12,10 @@ import pytest
 
 from cluster_network import Network, Rules
 from cluster_work import Served
-from clusters import Cluster, Layout, run
+from clusters import Cluster, Layout, run, send
 from preloaded import built
 from started import boto3_client
-from waiting import pace
+from waiting import pace, until
 
 # A head is given up behind ten seconds in which its gateway can't begin, or three in which no front reaches that.
 BEGINNING, REACHING = 10, 3
@@ -102,8 +100,7 @@ def never_begins(cluster: Cluster, server: int, milliseconds: int = 0) -> None:
 
 
 def end_gateway(cluster: Cluster, server: int) -> None:
-    with contextlib.suppress(ProcessLookupError, TypeError):
-        os.kill(cluster.node(server).gateway(), signal.SIGKILL)
+    send(until(cluster.node(server).gateway, 20, "there is no gateway"), signal.SIGKILL)
 
 
 def reached(cluster: Cluster) -> dict[int, int]:
