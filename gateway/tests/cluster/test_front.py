@@ -111,7 +111,6 @@ class Deaf(threading.Thread):
                 connection, _ = self.listener.accept()
             except OSError:
                 return
-            self.connections += 1
             threading.Thread(target=self.tell, args=[connection], daemon=True).start()
 
     def time(self) -> int:
@@ -120,7 +119,12 @@ class Deaf(threading.Thread):
     def tell(self, connection: socket.socket) -> None:
         head = b""
         while not head.endswith(b"\r\n\r\n"):
-            head += connection.recv(1)
+            data = connection.recv(1)
+            if not data:
+                # A front tries whether a port is reached, and asks for nothing.
+                return connection.close()
+            head += data
+        self.connections += 1
         connection.sendall(b"HTTP/1.1 101 Switching Protocols\r\nConnection: upgrade\r\nUpgrade: hobbychair-calls-1\r\n"
                            + f"X-Hobbychair-Time: {self.time()}\r\n\r\n".encode())
         try:
