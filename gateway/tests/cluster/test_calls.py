@@ -637,7 +637,9 @@ class Clients:
     def work(self, name: str, chance: random.Random) -> None:
         ask = ByJson(self.served.front.url)
         while not self.ask(ask, "CreateQueue", QueueName=name, Attributes={"VisibilityTimeout": str(TIMEOUT)}):
-            pass
+            if self.is_over:
+                return
+            pace(0.05)
         own = f"{self.served.front.url}/000000000000/{name}"
         for number in itertools.count():
             if self.is_over:
