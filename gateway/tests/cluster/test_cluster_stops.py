@@ -204,7 +204,7 @@ def test_the_only_full_server_is_not_let_go(tmp_path):
         node.process.terminate()
         until(lambda: not node.lives(), 20, "it doesn't end")
         assert node.process.returncode == 1
-        node.logs("the chain hasn't let go of it")
+        node.logs("it was told to twice, and the chain hasn't let go of it")
 
 
 def test_a_node_without_a_place_ends_at_once(tmp_path):
