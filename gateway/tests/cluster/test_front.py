@@ -318,6 +318,7 @@ def test_a_client_that_goes_leaves_nobody_asking(world):
 
 def test_where_nobody_acts_there_is_an_error_of_sqs(etcd):
     with World(etcd, "--admin", "0") as world:
+        until(lambda: world.told("/health")[0] == 200, 30, "it isn't well")
         world.register(3, None)
         world.head(3)
         until(lambda: world.told("/health") == (503, "waiting: no gateway of the cluster is known\n"), 20, "it knows one")
