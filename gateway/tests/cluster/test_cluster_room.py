@@ -151,4 +151,4 @@ def test_what_a_front_keeps_of_requests_that_wait_is_what_counts(served):
     statuses = [status_of(one) for one in sending]
     assert set(statuses) <= {200, 503} and statuses.count(200) > 700
     # Each body is there once, in buffers that may be twice as large, and each connection has its own: less than three times the bodies.
-    assert peak_of(served.front.process.pid) - before < 2 * 54 + 40, (before, peak_of(served.front.process.pid))
+    assert peak_of(served.front.process.pid) - before < 3 * 54, (before, peak_of(served.front.process.pid))

@@ -449,7 +449,7 @@ def test_what_waits_for_a_gateway_is_kept_once_however_often_it_is_asked(etcd):
         until(lambda: deaf.connections > tries + 4, 30, "nothing is asked again")
         # Each body is in one buffer, and each connection has one for what comes: less than three times the bodies.
         until(lambda: peak_of(world.front.process.pid) - before > 54, 20, "not all bodies have come")
-        assert peak_of(world.front.process.pid) - before < 2.8 * 54, (before, peak_of(world.front.process.pid))
+        assert peak_of(world.front.process.pid) - before < 3 * 54, (before, peak_of(world.front.process.pid))
     finally:
         for connection in asking:
             connection.close()
